@@ -1,0 +1,5 @@
+pub mod Causes
+pub mod Execution
+pub mod Files
+pub mod Memory
+pub mod Written

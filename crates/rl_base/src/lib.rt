@@ -1,0 +1,19 @@
+//! The outside as a program meets it: files by name, an output, and observers of what runs.
+//!
+//! Each is a trait, so that what reads and writes is proved whatever stands behind it. Each has a count
+//! of faults that never falls, and answers `Failed` only where that count rose in the call: who meets
+//! a fault can show whose it was. The memory forms tell their contents to contracts; the real forms,
+//! over the system's files and standard output, tell none.
+#![tactic(auto)]
+
+pub mod memory;
+pub mod observer;
+pub mod real;
+pub mod sink;
+pub mod tree;
+
+pub use memory::{MemSink, MemTree};
+pub use observer::Observer;
+pub use real::{DirTree, StdSink};
+pub use sink::{Sink, SinkError};
+pub use tree::{FetchError, Tree};

@@ -1,0 +1,31 @@
+-- What a module brings to a page: a script, styles and messages.
+use Rattle.std.specs.Prelude.{ℕ, List, [], flat_map, Option, option_map}
+use Rattle.std.specs.Option.{option_map_or}
+use Rattle.rl_names.specs.Hash.{hash_5}
+use Rattle.rl_names.specs.Packing.{distinct}
+use Rattle.rl_wire.specs.Line.{line}
+use Rattle.rl_wire.specs.Payload.{payload_text}
+use Rattle.rl_defs.specs.Catalogue.{Catalogue, file_of, module_named}
+use Rattle.rl_defs.specs.declared.module_def.ModuleDef.{ModuleDef}
+use Rattle.rl_build.specs.declared.context.Context.{Context}
+use Rattle.rl_build.specs.declared.payloads.Payload.{Payload}
+
+-- the text of a file and a line end behind it; a file that is not there gives nothing
+abbrev pub file_lines : Catalogue → List ℕ → List ℕ
+file_lines c file = option_map_or line (file_of c file) []
+
+-- the texts of these files in order, each file once, at its first place
+abbrev pub joined : Catalogue → List (List ℕ) → List ℕ
+joined c files = flat_map (file_lines c) (distinct files)
+
+-- definitions say nothing of styles and messages yet
+abbrev pub payload_of_module : Catalogue → ModuleDef → Payload
+payload_of_module c m = record { script = joined c m.scripts; styles = []; messages = [] }
+
+-- what a name brings, where it has a sheet
+abbrev pub payload_of : Catalogue → Context → List ℕ → Option Payload
+payload_of c ctx name = option_map (payload_of_module c) (module_named c name)
+
+-- the hash of all that a module brings
+abbrev pub version_of : Payload → List ℕ
+version_of p = hash_5 (payload_text p.script p.styles p.messages)

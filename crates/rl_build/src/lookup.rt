@@ -1,0 +1,112 @@
+//! Look-ups by name in a context.
+ghost use Rattle.std.specs.Prelude.{◌≡◌, IfOk, IfSome, OnOk, is_some, option_map, map};
+ghost use Rattle.rl_defs.specs.Catalogue.{module_named};
+ghost use Rattle.rl_wire.specs.Message.{AreAscending};
+ghost use Rattle.rl_build.specs.Sheet.{sheet_of, sheet_of_module, AreAllNames};
+ghost use Rattle.rl_build.specs.Payload.{payload_of, payload_of_module};
+
+use crate::context::Context;
+use crate::payloads::Payload;
+use crate::sheets::Sheet;
+use crate::texts::{distinct_names, joined};
+use rl_defs::{Catalog, ModuleDef};
+use rl_names::{Name, NoMemory, Seq, Text};
+use std::alloc::Global;
+
+fn module_of<'a>(catalog: &'a Catalog, name: &[u8]) -> Option<&'a ModuleDef>
+    ensures { option_map (λ m. m.now) result ≡ module_named catalog.now name.now }
+{
+    let at = catalog.find(name)?;
+    Some(catalog.module_at(at))
+}
+
+fn skip_of(module: &ModuleDef) -> Result<Option<Text>, NoMemory>
+    ensures { IfOk result (λ s. s ≡ module.now.skip) }
+{
+    match &module.skip {
+        Some(feature) => Ok(Some(feature.copy()?)),
+        None => Ok(None),
+    }
+}
+
+fn sheet_of_module(alloc: Global, module: &ModuleDef) -> Result<Sheet, NoMemory>
+    ensures { IfOk result (λ s. s ≡ sheet_of_module module.now) }
+{
+    Ok(Sheet {
+        group: module.group.copy()?,
+        deps: distinct_names(alloc, module.dependencies.as_slice())?,
+        source: module.source.copy()?,
+        skip: skip_of(module)?,
+    })
+}
+
+/// The sheet of a name, or none where the wiki has no such module.
+pub fn sheet(
+    alloc: Global,
+    catalog: &Catalog,
+    ctx: &Context,
+    name: &[u8],
+) -> Result<Option<Sheet>, NoMemory>
+    ensures { IfOk result (λ s. s ≡ sheet_of catalog.now ctx.now name.now) }
+{
+    match module_of(catalog, name) {
+        Some(module) => Ok(Some(sheet_of_module(alloc, module)?)),
+        None => Ok(None),
+    }
+}
+
+/// The group and the source of a name's sheet, or none where it has no sheet.
+pub fn group_and_source<'a>(
+    catalog: &'a Catalog,
+    ctx: &Context,
+    name: &[u8],
+) -> Option<(&'a str, &'a str)>
+    ensures group { option_map (λ p. p.0.now) result ≡ option_map (λ s. s.group) (sheet_of catalog.now ctx.now name.now) }
+    ensures source { option_map (λ p. p.1.now) result ≡ option_map (λ s. s.source) (sheet_of catalog.now ctx.now name.now) }
+{
+    let module = module_of(catalog, name)?;
+    Some((module.group.as_str(), module.source.as_str()))
+}
+
+/// All names with a sheet, in byte order.
+pub fn names(alloc: Global, catalog: &Catalog, ctx: &Context) -> Result<Vec<Name>, NoMemory>
+    ensures { IfOk result (λ v. AreAllNames catalog.now ctx.now v.items) }
+{
+    let modules = catalog.modules();
+    let mut names = Vec::with_capacity(alloc, modules.len())?;
+    'modules: for module in modules {
+        names.push(module.name.copy()?)?;
+    }
+    Ok(names)
+}
+
+fn payload_of_module(
+    alloc: Global,
+    catalog: &Catalog,
+    module: &ModuleDef,
+) -> Result<Payload, NoMemory>
+    ensures { IfOk result (λ p. p ≡ payload_of_module catalog.now module.now) }
+{
+    Ok(Payload {
+        script: joined(alloc, catalog, module.scripts.as_slice())?,
+        styles: Text::of(alloc, "")?,
+        messages: Seq::of(Vec::new(alloc)),
+    })
+}
+
+/// What a name brings, or none where it has no sheet.
+pub fn payload(
+    alloc: Global,
+    catalog: &Catalog,
+    ctx: &Context,
+    name: &[u8],
+) -> Result<Option<Payload>, NoMemory>
+    ensures value { IfOk result (λ p. p ≡ payload_of catalog.now ctx.now name.now) }
+    ensures ascending { IfOk result (λ p. IfSome p (λ p. AreAscending p.messages)) }
+    ensures with_sheet { IfOk result (λ p. is_some p ≡ is_some (sheet_of catalog.now ctx.now name.now)) }
+{
+    match module_of(catalog, name) {
+        Some(module) => Ok(Some(payload_of_module(alloc, catalog, module)?)),
+        None => Ok(None),
+    }
+}

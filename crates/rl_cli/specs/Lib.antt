@@ -1,0 +1,7 @@
+pub mod Answers
+pub mod Code
+pub mod Files
+pub mod Loads
+pub mod Meant
+pub mod Words
+pub mod Written

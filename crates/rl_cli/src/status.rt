@@ -1,0 +1,51 @@
+ghost use Rattle.std.specs.Prelude.{◌≡◌};
+ghost use Rattle.rl_cli.specs.Code.{code_of};
+
+use rl_base::Observer;
+use rl_names::Counted;
+
+/// How a call ended.
+#[derive(Clone, Copy, Debug, PartialEq, Eq)]
+pub enum Status {
+    /// The output was written, and every requested name is ready where the command has requests.
+    Done,
+    /// The words are none that a command has.
+    BadWords,
+    /// A file breaks its rules: the file that the word of this place names, where the command is word
+    /// 0, in this line, where 0 stands for the file as a whole. `why` is the number of the rule.
+    BadInput { word: u32, line: u32, why: u32 },
+    /// There are more of something than its limit allows. Of a file that is too long, `count` is one
+    /// byte more than the limit, since no more is read; else it is the true number.
+    TooLarge { what: Counted, count: u64 },
+    /// The output was written, and a request was refused, a name was dropped, or a requested name is
+    /// not ready.
+    NotReady,
+    /// A file that the words name was not read.
+    ReadFault,
+    /// The output was not written whole.
+    WriteFault,
+    NoMemory,
+}
+
+/// How a call ended, and the observers that it was given.
+#[derive(Drop)]
+pub struct Ended {
+    pub status: Status,
+    pub observers: Vec<Box<dyn Observer + Send>>,
+}
+
+impl Status {
+    /// The exit code: 0, 2 where the input is at fault, 3 for not ready, 4 where the outside is at
+    /// fault, and 5 for want of memory.
+    pub fn code(&self) -> u8
+        ensures { result ≡ code_of self.now }
+    {
+        match self {
+            Status::Done => 0,
+            Status::BadWords | Status::BadInput { .. } | Status::TooLarge { .. } => 2,
+            Status::NotReady => 3,
+            Status::ReadFault | Status::WriteFault => 4,
+            Status::NoMemory => 5,
+        }
+    }
+}

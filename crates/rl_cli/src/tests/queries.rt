@@ -1,0 +1,131 @@
+use super::tree_of;
+use crate::{Status, run};
+use rl_base::MemSink;
+use rl_names::Counted;
+use std::alloc::Global;
+use std::test::Fail;
+
+const SHORT: &str = r#"
+[wiki]
+admins = ["Root"]
+skins = ["vector"]
+[files]
+"a.js" = "a()"
+"b.js" = "b()"
+[modules.a]
+scripts = ["a.js"]
+[modules.b]
+scripts = ["b.js"]
+group = "late"
+[modules.p]
+scripts = ["a.js"]
+group = "private"
+"#;
+
+/// What `load` answers and writes for definitions and a query.
+fn loaded(alloc: Global, definitions: &str, query: &str) -> Result<(Status, Vec<u8>), Fail> {
+    let mut tree = tree_of(alloc, "a.toml", definitions.as_bytes())?;
+    let mut out = MemSink::new(alloc, Vec::new(alloc))?;
+    let words = ["load", "a.toml", "-", "-", query];
+    let ended = run(alloc, &words, &mut tree, &mut out, Vec::new(alloc));
+    Ok((ended.status, Vec::from_slice(alloc, out.written())?))
+}
+
+/// `modules=a`, repeated names apart, and so many bytes more.
+fn long_query(alloc: Global, piece: &str, times: usize) -> Result<String, Fail> {
+    let mut query = String::from_str(alloc, "modules=a")?;
+    for _ in 0..times {
+        query.push_str(piece)?;
+    }
+    Ok(query)
+}
+
+const A: &str = "mw.loader.implement(\"a@96okj\",\"a()\\n\",{},{});\n";
+
+#[test]
+fn answered(rt: HostRuntime) -> Result<(), Fail> {
+    let alloc = rt.alloc();
+    for (query, body) in [
+        (
+            "modules=a,zz,b,a",
+            "mw.loader.implement(\"a@96okj\",\"a()\\n\",{},{});\n\
+mw.loader.implement(\"b@wn61g\",\"b()\\n\",{},{});\n\
+mw.loader.state({\"zz\":\"missing\"});\n",
+        ),
+        ("modules=p", "mw.loader.state({\"p\":\"missing\"});\n"),
+        ("modules=a&only=styles", ""),
+    ] {
+        let (ended, written) = loaded(alloc, SHORT, query)?;
+        assert_eq!(rt; ended, Status::Done, "{query}");
+        assert_eq!(rt; written.as_slice(), body.as_bytes(), "{query}");
+    }
+    Ok(())
+}
+
+#[test]
+fn at_limits(rt: HostRuntime) -> Result<(), Fail> {
+    let alloc = rt.alloc();
+    let longest = long_query(alloc, "&", 16_375)?;
+    let longer = long_query(alloc, "&", 16_376)?;
+    let many = long_query(alloc, ",a", 999)?;
+    let more = long_query(alloc, ",a", 1_000)?;
+    let (ended, written) = loaded(alloc, SHORT, longest.as_str())?;
+    assert_eq!(rt; ended, Status::Done, "16384 bytes");
+    assert_eq!(rt; written.as_slice(), A.as_bytes(), "16384 bytes");
+    let (ended, _) = loaded(alloc, SHORT, longer.as_str())?;
+    assert_eq!(rt;
+        ended,
+        Status::TooLarge {
+            what: Counted::QueryBytes,
+            count: 16_385
+        }
+    );
+    let (ended, written) = loaded(alloc, SHORT, many.as_str())?;
+    assert_eq!(rt; ended, Status::Done, "1000 names");
+    assert_eq!(rt; written.as_slice(), A.as_bytes(), "1000 names");
+    let (ended, _) = loaded(alloc, SHORT, more.as_str())?;
+    assert_eq!(rt;
+        ended,
+        Status::TooLarge {
+            what: Counted::Names,
+            count: 1_001
+        }
+    );
+    let (ended, _) = loaded(alloc, "[", longer.as_str())?;
+    assert_eq!(rt;
+        ended,
+        Status::BadInput {
+            word: 1,
+            line: 0,
+            why: 11
+        },
+        "bad definitions come first"
+    );
+    Ok(())
+}
+
+#[test]
+fn refused_definitions(rt: HostRuntime) -> Result<(), Fail> {
+    let alloc = rt.alloc();
+    for (definitions, why) in [
+        ("[", 11),
+        ("[modules.a]\nx = 1", 12),
+        ("[modules.user]", 13),
+        ("[modules.a]\ndependencies = [\"zz\"]", 14),
+        ("[modules.a]\nscripts = [\"q.js\"]", 15),
+        ("[modules.a]\nsource = \"other\"", 18),
+    ] {
+        let (ended, written) = loaded(alloc, definitions, "modules=a")?;
+        assert_eq!(rt;
+            ended,
+            Status::BadInput {
+                word: 1,
+                line: 0,
+                why
+            },
+            "{definitions}"
+        );
+        assert!(rt; written.is_empty(), "{definitions}");
+    }
+    Ok(())
+}

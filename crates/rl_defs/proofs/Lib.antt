@@ -1,0 +1,4 @@
+pub mod Drafts
+pub mod Search
+pub mod Settling
+pub mod Taking

@@ -1,0 +1,67 @@
+-- What holds of a draft that breaks no rule.
+use Rattle.std.proofs.Common.{◌≡◌, ℕ, ◌≤◌, Bool, true, false, List, [], ◌∷◌, length, map, Option, Some, None, refl, ap, arith}
+use Rattle.std.specs.Prelude.{◌&&◌, ◌||◌, not, nat_le, bytes_eq, codes}
+use Rattle.std.specs.List.{list_all}
+use Rattle.std.proofs.lemmas.Bool.Decides.{nat_tests}
+use Rattle.rl_names.specs.Name.{is_name}
+use Rattle.rl_defs.specs.declared.draft.Draft.{Draft}
+use Rattle.rl_defs.specs.declared.draft.ModuleDraft.{ModuleDraft}
+use Rattle.rl_defs.specs.declared.error.CatalogError.{CatalogError}
+use Rattle.rl_defs.specs.declared.error.CatalogError.TheVariants.{BadName, BadDependency, TooMany}
+use Rattle.rl_names.specs.declared.counted.Counted.TheVariants.{Modules}
+use Rattle.rl_defs.specs.declared.module_def.ModuleDef.{ModuleDef}
+use Rattle.rl_defs.specs.Breach.{or_else, first_of, unless, breach_of, bad_name, bad_module_name, bad_skin, too_many, too_many_dependencies, bad_dependency, bad_dependency_of, bad_dependency_among, is_defined, is_dependency, no_file, bad_source, too_large}
+use Rattle.rl_defs.specs.Draft.{has_names, module_of}
+use Rattle.rl_defs.specs.Words.{is_definable, is_built_in, is_gadget}
+
+-- neither of two breaches, where there is no first
+no_first : (a b : Option CatalogError) → or_else a b ≡ None → (a ≡ None) × (b ≡ None)
+no_first None b none = (refl, none)
+no_first (Some breach) b none = cc
+
+kept : (is_kept : Bool) (breach : CatalogError) → unless is_kept breach ≡ None → is_kept ≡ true
+kept true breach none = refl
+kept false breach none = cc
+
+-- the first of two tests that both pass
+passes_first : (a b : Bool) → a && b ≡ true → a ≡ true
+passes_first true b both = refl
+passes_first false b both = both
+
+passes_both : (a b : Bool) → a ≡ true → b ≡ true → a && b ≡ true
+passes_both a b first second = rw (first, second)
+
+dependencies_are_names : (d : Draft) (owner : List ℕ) (names : List (List ℕ)) → bad_dependency_among d owner names ≡ None → list_all is_name names ≡ true
+dependencies_are_names d owner [] none = refl
+dependencies_are_names d owner (name ∷ names) none =
+    let parts = no_first (unless (is_dependency d name) (BadDependency owner name)) (bad_dependency_among d owner names) none in
+    passes_both (is_name name) (list_all is_name names) (passes_first (is_name name) (is_defined d name || is_built_in name || is_gadget name) (kept (is_dependency d name) (BadDependency owner name) parts.0)) (dependencies_are_names d owner names parts.1)
+
+modules_have_names : (d : Draft) (ms : List ModuleDraft) → bad_module_name ms ≡ None → first_of (bad_dependency_of d) ms ≡ None → list_all has_names ms ≡ true
+modules_have_names d [] names dependencies = refl
+modules_have_names d (m ∷ ms) names dependencies =
+    let of_names = no_first (unless (is_definable m.name) (BadName m.name)) (bad_module_name ms) names in
+    let of_dependencies = no_first (bad_dependency_of d m) (first_of (bad_dependency_of d) ms) dependencies in
+    let name = passes_first (is_name m.name) (not (bytes_eq m.name (codes "startup") || is_built_in m.name || is_gadget m.name)) (kept (is_definable m.name) (BadName m.name) of_names.0) in
+    passes_both (has_names m) (list_all has_names ms) (passes_both (is_name m.name) (list_all is_name m.dependencies) name (dependencies_are_names d m.name m.dependencies of_dependencies.0)) (modules_have_names d ms of_names.1 of_dependencies.1)
+
+pub settled_names : (d : Draft) → breach_of d ≡ None → list_all has_names d.modules ≡ true
+settled_names d none =
+    let after_names = no_first (bad_name d) (or_else (too_many d) (or_else (bad_dependency d) (or_else (no_file d) (or_else (bad_source d) (too_large d))))) none in
+    let after_counts = no_first (too_many d) (or_else (bad_dependency d) (or_else (no_file d) (or_else (bad_source d) (too_large d)))) after_names.1 in
+    let after_dependencies = no_first (bad_dependency d) (or_else (no_file d) (or_else (bad_source d) (too_large d))) after_counts.1 in
+    let of_names = no_first (bad_module_name d.modules) (bad_skin d.skins) after_names.0 in
+    modules_have_names d d.modules of_names.0 after_dependencies.0
+
+pub settled_few : (d : Draft) → breach_of d ≡ None → length d.modules ≤ 3500
+settled_few d none =
+    let after_names = no_first (bad_name d) (or_else (too_many d) (or_else (bad_dependency d) (or_else (no_file d) (or_else (bad_source d) (too_large d))))) none in
+    let after_counts = no_first (too_many d) (or_else (bad_dependency d) (or_else (no_file d) (or_else (bad_source d) (too_large d)))) after_names.1 in
+    let of_counts = no_first (unless (nat_le (length d.modules) 3500) (TooMany Modules (length d.modules))) (too_many_dependencies d.modules) after_counts.0 in
+    let few = kept (nat_le (length d.modules) 3500) (TooMany Modules (length d.modules)) of_counts.0 in
+    grind (arith, nat_tests)
+
+-- a module keeps its name
+pub same_names : (ms : List ModuleDraft) → map (λ (m : ModuleDef). m.name) (map module_of ms) ≡ map (λ (m : ModuleDraft). m.name) ms
+same_names [] = refl
+same_names (m ∷ ms) = ap (λ names. m.name ∷ names) (same_names ms)

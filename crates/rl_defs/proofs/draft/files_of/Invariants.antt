@@ -1,0 +1,8 @@
+use Rattle.std.proofs.Common.{◌≡◌, ◌++◌}
+use Rattle.toml.specs.View.{members_view}
+use Rattle.rl_defs.specs.Draft.{files_of}
+use Rattle.rl_defs.proofs.draft.files_of.Given as goal
+
+-- those so far, and those that are left
+abbrev pub invariant-files : goal.invariant-files
+invariant-files l = l.files.items ++ files_of (members_view l.name-iterator) ≡ files_of (members_view l.fn.table.entries)

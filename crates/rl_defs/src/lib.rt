@@ -1,0 +1,20 @@
+//! The definitions file of a wiki: its modules, their files, and who and what it knows.
+#![tactic(auto)]
+
+pub mod catalog;
+mod checks;
+mod draft;
+pub mod error;
+mod fields;
+pub mod file;
+pub mod language;
+pub mod module_def;
+mod named;
+mod reading;
+mod words;
+
+pub use catalog::Catalog;
+pub use error::CatalogError;
+pub use file::File;
+pub use language::Language;
+pub use module_def::{Listed, ModuleDef};

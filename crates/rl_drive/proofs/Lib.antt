@@ -1,0 +1,12 @@
+pub mod Answering
+pub mod Concluding
+pub mod Dues
+pub mod Joining
+pub mod Lists
+pub mod Opening
+pub mod Parts
+pub mod Playing
+pub mod Running
+pub mod Summing
+pub mod Taking
+pub mod Touching

@@ -1,0 +1,46 @@
+use Rattle.std.proofs.Common.{◌≡◌, ◌∙◌, ap, ap₂, sym, subst, List, Err, None, reverse}
+use Rattle.std.specs.declared.alloc.Global.{Global}
+use Rattle.std.specs.Prelude.{Vec}
+use Rattle.std.proofs.lemmas.Result.{err_from_is_err_and}
+use Rattle.rl_view_spec.specs.Closure.{Text, Registered}
+use Rattle.rl_registry.specs.Answered.{Registers}
+use Rattle.rl_script.specs.Reads.{Tells}
+use Rattle.rl_script_spec.specs.Output.{all_ready, output_of}
+use Rattle.rl_script_spec.specs.Script.{first_fault, lines_of, registered_in, steps_in}
+use Rattle.rl_script_spec.specs.declared.Step.{Step}
+use Rattle.rl_drive.specs.Drives.{quiet}
+use Rattle.rl_drive.proofs.Concluding.{at_fault, is_played, no_registry, no_text, said}
+use Rattle.rl_drive.proofs.script.drive.Goals as goal
+
+pub returns-in_default : goal.returns-in_default
+returns-in_default c = no_text c.args.bytes.now c.in_default.ensures.cases.0
+
+pub returns-in_err-rows : goal.returns-in_err-rows
+returns-in_err-rows c =
+    let p = err_from_is_err_and c.from_residual.result c.from_residual.ensures.1 in
+    rw (p.1, p.2)
+    (at_fault c.args.bytes.now c.in_err-rows.field-0.0 c.in-Ok.ensures.cases.1
+    (subst (λ (bytes : Text). Tells c.in_err-rows.field-0.0 (first_fault 0 (lines_of bytes))) c.in-Ok.ensures.cases.0 c.in_err-rows.ensures.answer))
+
+pub returns-in_err-registry : goal.returns-in_err-registry
+returns-in_err-registry c =
+    let p = err_from_is_err_and c.from_residual-in_err-registry.result c.from_residual-in_err-registry.ensures.1 in
+    let text : c.in-Ok.text.now ≡ c.args.bytes.now = c.in-Ok.ensures.cases.0 in
+    rw (p.1, p.2)
+    (no_registry c.args.bytes.now (said c.in_ok-rows.field-0.rows c.in_ok-rows.field-0.features) c.in_err-registry.field-0.0 c.in-Ok.ensures.cases.1
+    (subst (λ (bytes : Text). first_fault 0 (lines_of bytes) ≡ None) text c.in_ok-rows.ensures.answer.0)
+    (ap (λ (bytes : Text). registered_in (lines_of bytes)) (sym text) ∙ c.in_ok-rows.ensures.answer.1)
+    (subst (λ (features : List Text). Registers (Err c.in_err-registry.field-0.0) c.in_ok-rows.field-0.rows.items features) c.as_slice.ensures.value c.in_err-registry.ensures))
+
+pub returns : goal.returns
+returns c =
+    let text : c.in-Ok.text.now ≡ c.args.bytes.now = c.in-Ok.ensures.cases.0 in
+    let r : Registered = said c.in_ok-rows.field-0.rows c.in_ok-rows.field-0.features in
+    let registry : c.in_ok-registry.registry ≡ r = c.in_ok-registry.ensures.1 ∙ ap (λ (features : List Text). record { rows = c.in_ok-rows.field-0.rows.items; features = features }) c.as_slice.ensures.value in
+    is_played c.args.bytes.now r c.in_ok-rows.field-0.steps.items c.in_ok-driven.driven.text.items c.in_ok-driven.driven.ready c.in-Ok.ensures.cases.1
+    (subst (λ (bytes : Text). first_fault 0 (lines_of bytes) ≡ None) text c.in_ok-rows.ensures.answer.0)
+    (ap (λ (bytes : Text). registered_in (lines_of bytes)) (sym text) ∙ c.in_ok-rows.ensures.answer.1)
+    (ap (λ (bytes : Text). steps_in (lines_of bytes)) (sym text) ∙ c.in_ok-rows.ensures.answer.2)
+    c.in_ok-registry.ensures.0
+    (c.in_ok-driven.ensures.text ∙ ap₂ (λ (r : Registered) (steps : List Step). output_of (quiet r) (reverse steps)) registry c.as_slice-2.ensures.value)
+    (c.in_ok-driven.ensures.ready ∙ ap₂ (λ (r : Registered) (steps : List Step). all_ready (quiet r) (reverse steps)) registry c.as_slice-2.ensures.value)

@@ -1,0 +1,5 @@
+pub mod Drives
+pub mod Errors
+pub mod Played
+pub mod Player
+pub mod Seen

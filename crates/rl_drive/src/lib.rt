@@ -1,0 +1,11 @@
+//! The loop over the steps of a `drive` script: it does them, and writes the replies, what ran and the summary.
+#![tactic(auto)]
+
+mod content;
+mod player;
+mod script;
+mod steps;
+mod text;
+
+pub use script::{DriveError, drive};
+pub use steps::{Driven, play};

@@ -1,0 +1,87 @@
+//! A whole script, from its bytes.
+ghost use Rattle.rl_script_spec.specs.Script.{verdict_of};
+ghost use Rattle.rl_drive.specs.Drives.{Concludes, never};
+
+use crate::steps::{Driven, play};
+use rl_names::{Counted, NoMemory};
+use rl_registry::{Registry, RegistryError};
+use rl_script::{Script, ScriptError, read_script};
+use std::alloc::Global;
+use std::str;
+use thiserror::Error;
+
+/// Why a script came to nothing.
+#[derive(Clone, Copy, Debug, PartialEq, Eq, Error)]
+pub enum DriveError {
+    /// The first fault of the script. Lines are counted from 1, and 0 stands for the script as a whole. It is not of the
+    /// grammar (1), a row or features that stand after a step (3), bytes that are not UTF-8 (4) or a name that two rows
+    /// have (22).
+    #[error("line {line} is bad ({why})")]
+    BadInput { line: u32, why: u32 },
+    /// More steps or rows than a script may have, or more dependencies than a row may.
+    #[error("too many {what:?}: {count}")]
+    TooLarge { what: Counted, count: u64 },
+    #[error("out of memory")]
+    NoMemory,
+}
+
+impl From<NoMemory> for DriveError {
+    ghost use Rattle.std.specs.Prelude.{◌≡◌};
+    ghost use Rattle.rl_drive.specs.declared.script.DriveError.TheVariants.{NoMemory};
+
+    ghost from_gives = { λ _ e. e ≡ NoMemory };
+
+    fn from(_error: NoMemory) -> Self {
+        DriveError::NoMemory
+    }
+}
+
+impl From<ScriptError> for DriveError {
+    ghost use Rattle.std.specs.Prelude.{◌≡◌};
+    ghost use Rattle.rl_drive.specs.Errors.{of_script};
+
+    ghost from_gives = { λ error e. e ≡ of_script error };
+
+    fn from(error: ScriptError) -> Self {
+        match error {
+            ScriptError::BadLine { line, why } => DriveError::BadInput { line, why },
+            ScriptError::TooMany { count } => DriveError::TooLarge {
+                what: Counted::Steps,
+                count,
+            },
+            ScriptError::NoMemory => DriveError::NoMemory,
+        }
+    }
+}
+
+impl From<RegistryError> for DriveError {
+    ghost use Rattle.std.specs.Prelude.{◌≡◌};
+    ghost use Rattle.rl_drive.specs.Errors.{of_registry};
+
+    ghost from_gives = { λ error e. e ≡ of_registry error };
+
+    fn from(error: RegistryError) -> Self {
+        match error {
+            RegistryError::TooMany { what, count } => DriveError::TooLarge { what, count },
+            RegistryError::Duplicate { .. } => DriveError::BadInput { line: 0, why: 22 },
+            RegistryError::NoMemory => DriveError::NoMemory,
+        }
+    }
+}
+
+/// Reads a script and plays its steps on a view of its rows. Nothing throws.
+pub fn drive(alloc: Global, bytes: &[u8]) -> Result<Driven, DriveError>
+    ensures { Concludes result (verdict_of never bytes.now) }
+{
+    let Ok(text) = str::from_utf8(bytes) else {
+        return Err(DriveError::BadInput { line: 0, why: 4 });
+    };
+    let Script {
+        rows,
+        features,
+        steps,
+    } = read_script(alloc, text)?;
+    let registry = Registry::read(alloc, rows, features.as_slice())?;
+    let driven = play(alloc, registry, steps.as_slice())?;
+    Ok(driven)
+}

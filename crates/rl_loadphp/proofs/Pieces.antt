@@ -1,0 +1,167 @@
+-- An answer is made of pieces that may be sent.
+use Rattle.std.proofs.Common.{◌≡◌, ◌≢◌, ◌⊎◌, ℕ, zero, suc, ◌<◌, Bool, true, false, cond, ◌&&◌, not, nat_lt, List, [], ◌∷◌, ◌++◌, length, map, codes, Option, Some, None, option_map, filter, bytes_eq, refl, sym, ap, ◌∙◌, subst, arith, append-nil}
+use Rattle.std.specs.Prelude.{Contains}
+use Rattle.std.specs.List.{AllByRecursion, flat_map, filter_map, cons_option}
+use Rattle.std.specs.Option.{option_map_or}
+use Rattle.std.proofs.lemmas.Bool.{and_parts}
+use Rattle.std.proofs.lemmas.Bool.Decides.{nat_tests}
+use Rattle.std.proofs.lemmas.List.Concat.{flat_map-append}
+use Rattle.std.proofs.lemmas.Slice.Eq.{bytes_eq-Decides}
+use Rattle.rl_names.specs.declared.query.Query.{Query}
+use Rattle.rl_names.specs.declared.query.Only.{Only}
+use Rattle.rl_names.specs.declared.query.Only.TheVariants.{All, Scripts, Styles}
+use Rattle.rl_wire.specs.Line.{line, part_text, state_text}
+use Rattle.rl_defs.specs.Catalogue.{Catalogue}
+use Rattle.rl_build.specs.declared.context.Context.{Context}
+use Rattle.rl_build.specs.declared.sheets.Sheet.{Sheet}
+use Rattle.rl_build.specs.declared.payloads.Payload.{Payload}
+use Rattle.rl_build.specs.Sheet.{sheet_of}
+use Rattle.rl_build.specs.Payload.{payload_of, version_of}
+use Rattle.rl_loadphp.specs.Served.{names_of, query_context, may_serve, is_served, served, missing}
+use Rattle.rl_loadphp.specs.Body.{body_of, built, states_text, scripts_text, styles_text}
+use Rattle.rl_loadphp.specs.Sent.{MaySend, Piece, implementation, script, styles, state, IsMadeOfPieces}
+use Rattle.rl_loadphp.specs.Steps.{line_of, script_of, styles_of}
+use Rattle.rl_loadphp.proofs.Made.{wire-missing, scripts-payloads, styles-payloads}
+
+-- ---- what is made of pieces
+
+both : {X : Type 0} (P : X → Type 0) (xs ys : List X) → AllByRecursion P xs → AllByRecursion P ys → AllByRecursion P (xs ++ ys)
+both P [] ys a b = b
+both P (x ∷ xs) ys a b = (a.0, both P xs ys a.1 b)
+
+nothing_made : (c : Catalogue) (q : Query) → IsMadeOfPieces c q []
+nothing_made c q = ([], refl, tt)
+
+one_made : (c : Catalogue) (q : Query) (text : List ℕ) → Piece c q text → IsMadeOfPieces c q text
+one_made c q text piece = (text ∷ [], sym (append-nil text), (piece, tt))
+
+both_made : (c : Catalogue) (q : Query) (a b : List ℕ) → IsMadeOfPieces c q a → IsMadeOfPieces c q b → IsMadeOfPieces c q (a ++ b)
+both_made c q a b (ps, whole, all) (qs, rest, others) = (
+  ps ++ qs,
+  ap (λ t. t ++ b) whole ∙ ap (λ t. flat_map (λ (piece : List ℕ). piece) ps ++ t) rest ∙ sym (flat_map-append (λ (piece : List ℕ). piece) ps qs),
+  both (Piece c q) ps qs all others,
+)
+
+each_made : (c : Catalogue) (q : Query) (P : List ℕ → Type 0) (text_of : List ℕ → List ℕ) → ((name : List ℕ) → P name → IsMadeOfPieces c q (text_of name))
+    → (names : List (List ℕ)) → AllByRecursion P names → IsMadeOfPieces c q (flat_map text_of names)
+each_made c q P text_of one [] all = nothing_made c q
+each_made c q P text_of one (name ∷ names) all = both_made c q (text_of name) (flat_map text_of names) (one name all.0) (each_made c q P text_of one names all.1)
+
+-- ---- names that are asked for
+
+IsAsked : Query → List ℕ → Type 0
+IsAsked q name = Contains (names_of q) name
+
+contains_all : (xs ys : List (List ℕ)) → ((name : List ℕ) → Contains xs name → Contains ys name) → AllByRecursion (Contains ys) xs
+contains_all [] ys into = tt
+contains_all (x ∷ xs) ys into =
+    (into x (0, omega arith, refl), contains_all xs ys (λ name (k, within, is). into name (suc k, omega arith, is)))
+
+kept_step : (P : List ℕ → Type 0) (test : List ℕ → Bool) (v : Bool) (x : List ℕ) (rest : List (List ℕ)) → test x ≡ v → P x
+    → AllByRecursion (λ (n : List ℕ). P n × (test n ≡ true)) rest → AllByRecursion (λ (n : List ℕ). P n × (test n ≡ true)) (cond v (x ∷ rest) rest)
+kept_step P test true x rest e here all = ((here, e), all)
+kept_step P test false x rest e here all = all
+
+-- what a filter keeps is what it was given, and passes
+kept : (P : List ℕ → Type 0) (test : List ℕ → Bool) (xs : List (List ℕ)) → AllByRecursion P xs → AllByRecursion (λ (n : List ℕ). P n × (test n ≡ true)) (filter test xs)
+kept P test [] all = tt
+kept P test (x ∷ xs) all = kept_step P test (test x) x (filter test xs) refl all.0 (kept P test xs all.1)
+
+first_parts : (P Q : List ℕ → Type 0) (xs : List (List ℕ)) → AllByRecursion (λ (n : List ℕ). P n × Q n) xs → AllByRecursion P xs
+first_parts P Q [] all = tt
+first_parts P Q (x ∷ xs) all = (all.0.0, first_parts P Q xs all.1)
+
+-- ---- what is_served tells
+
+not_both : (b : Bool) → not b ≡ true → b ≡ true → ⊥
+not_both true h k = cc
+not_both false h k = cc
+
+nobody : (user : List ℕ) (own : Bool) → not (own && nat_lt 0 (length user)) ≡ true → own ≡ true → user ≡ []
+nobody [] own h k = refl
+nobody (b ∷ bs) own h k =
+    let some : nat_lt 0 (length (b ∷ bs)) ≡ true = grind (arith, nat_tests) in
+    absurd (not_both (own && nat_lt 0 (length (b ∷ bs))) h (rw (k, some) refl))
+
+may_send : (c : Catalogue) (q : Query) (name : List ℕ) (p : Payload) (o : Option Sheet) → sheet_of c (query_context c q) name ≡ o → option_map_or (may_serve q.user) o false ≡ true
+    → IsAsked q name → payload_of c (query_context c q) name ≡ Some p → MaySend c q name p
+unfolding IsAsked
+may_send c q name p None e served asked brings = absurd (cc)
+may_send c q name p (Some s) e served asked brings =
+    let whole = and_parts (not (bytes_eq s.group (codes "private")) && bytes_eq s.source (codes "local")) (not (bytes_eq s.group (codes "user") && nat_lt 0 (length q.user))) served in
+    let front = and_parts (not (bytes_eq s.group (codes "private"))) (bytes_eq s.source (codes "local")) whole.0 in
+    record {
+      asked = asked;
+      sheet = s;
+      known = e;
+      public = λ is. not_both (bytes_eq s.group (codes "private")) front.0 ((bytes_eq-Decides s.group (codes "private")).1 is);
+      here = (bytes_eq-Decides s.source (codes "local")).0 front.1;
+      own = λ is. nobody q.user (bytes_eq s.group (codes "user")) whole.1 ((bytes_eq-Decides s.group (codes "user")).1 is);
+      brings = brings;
+    }
+
+-- ---- what names bring
+
+IsSent : Catalogue → Query → List ℕ → Type 0
+IsSent c q name = IsAsked q name × (is_served c (query_context c q) q.user name ≡ true)
+
+brought : (c : Catalogue) (q : Query) (make : Payload → List ℕ) (name : List ℕ) → ((p : Payload) → MaySend c q name p → Piece c q (make p))
+    → IsSent c q name → (o : Option Payload) → payload_of c (query_context c q) name ≡ o → IsMadeOfPieces c q (option_map_or make o [])
+unfolding IsSent
+brought c q make name piece sent None e = nothing_made c q
+brought c q make name piece sent (Some p) e =
+    one_made c q (make p) (piece p (may_send c q name p (sheet_of c (query_context c q) name) refl sent.1 sent.0 e))
+
+lines_made : (c : Catalogue) (q : Query) (names : List (List ℕ)) → AllByRecursion (IsSent c q) names → IsMadeOfPieces c q (flat_map (line_of c (query_context c q)) names)
+lines_made c q = each_made c q (IsSent c q) (line_of c (query_context c q))
+    (λ name sent. brought c q (λ (p : Payload). line (part_text (built name p))) name (λ p may. implementation name p may) sent (payload_of c (query_context c q) name) refl)
+
+scripts_made : (c : Catalogue) (q : Query) (names : List (List ℕ)) → AllByRecursion (IsSent c q) names → IsMadeOfPieces c q (flat_map (script_of c (query_context c q)) names)
+scripts_made c q = each_made c q (IsSent c q) (script_of c (query_context c q))
+    (λ name sent. brought c q (λ (p : Payload). p.script) name (λ p may. script name p may) sent (payload_of c (query_context c q) name) refl)
+
+styles_made : (c : Catalogue) (q : Query) (names : List (List ℕ)) → AllByRecursion (IsSent c q) names → IsMadeOfPieces c q (flat_map (styles_of c (query_context c q)) names)
+styles_made c q = each_made c q (IsSent c q) (styles_of c (query_context c q))
+    (λ name sent. brought c q (λ (p : Payload). p.styles) name (λ p may. styles name p may) sent (payload_of c (query_context c q) name) refl)
+
+states_made : (c : Catalogue) (q : Query) (word : List ℕ) → Contains (codes "ready" ∷ codes "missing" ∷ []) word
+    → (names : List (List ℕ)) → AllByRecursion (IsAsked q) names → IsMadeOfPieces c q (states_text word names)
+unfolding IsAsked
+states_made c q word known = each_made c q (Contains (names_of q)) (λ (name : List ℕ). line (state_text name word))
+    (λ name asked. one_made c q (line (state_text name word)) (state name word asked known))
+
+-- ---- the body
+
+all_asked : (q : Query) → AllByRecursion (IsAsked q) (names_of q)
+unfolding IsAsked
+all_asked q = contains_all (names_of q) (names_of q) (λ name h. h)
+
+served_sent : (c : Catalogue) (q : Query) → AllByRecursion (IsSent c q) (served c q)
+unfolding IsSent
+served_sent c q = kept (IsAsked q) (is_served c (query_context c q) q.user) (names_of q) (all_asked q)
+
+served_asked : (c : Catalogue) (q : Query) → AllByRecursion (IsAsked q) (served c q)
+unfolding IsSent
+served_asked c q = first_parts (IsAsked q) (λ (name : List ℕ). is_served c (query_context c q) q.user name ≡ true) (served c q) (served_sent c q)
+
+missing_asked : (c : Catalogue) (q : Query) → AllByRecursion (IsAsked q) (missing c q)
+missing_asked c q =
+    first_parts (IsAsked q) (λ (name : List ℕ). not (is_served c (query_context c q) q.user name) ≡ true) (missing c q)
+    (kept (IsAsked q) (λ (name : List ℕ). not (is_served c (query_context c q) q.user name)) (names_of q) (all_asked q))
+
+missing_made : (c : Catalogue) (q : Query) → IsMadeOfPieces c q (states_text (codes "missing") (missing c q))
+missing_made c q = states_made c q (codes "missing") (1, omega arith, refl) (missing c q) (missing_asked c q)
+
+pub body_made : (c : Catalogue) (q : Query) (only : Only) → IsMadeOfPieces c q (body_of c (query_context c q) only (served c q) (missing c q))
+body_made c q All =
+    let Made : List ℕ → Type 0 = λ text. IsMadeOfPieces c q text in
+    subst Made (sym (wire-missing c (query_context c q) (served c q) (missing c q)))
+    (both_made c q (flat_map (line_of c (query_context c q)) (served c q)) (states_text (codes "missing") (missing c q)) (lines_made c q (served c q) (served_sent c q)) (missing_made c q))
+body_made c q Scripts =
+    let Made : List ℕ → Type 0 = λ text. IsMadeOfPieces c q text in
+    let states = both_made c q (states_text (codes "ready") (served c q)) (states_text (codes "missing") (missing c q)) (states_made c q (codes "ready") (0, omega arith, refl) (served c q) (served_asked c q)) (missing_made c q) in
+    both_made c q (scripts_text c (query_context c q) (served c q)) (states_text (codes "ready") (served c q) ++ states_text (codes "missing") (missing c q))
+    (subst Made (sym (scripts-payloads c (query_context c q) (served c q))) (scripts_made c q (served c q) (served_sent c q))) states
+body_made c q Styles =
+    let Made : List ℕ → Type 0 = λ text. IsMadeOfPieces c q text in
+    subst Made (sym (styles-payloads c (query_context c q) (served c q))) (styles_made c q (served c q) (served_sent c q))

@@ -1,0 +1,35 @@
+-- The names that are served and those that are not, and the answer over them.
+use Rattle.std.proofs.Common.{◌≡◌, ℕ, Bool, not, ◌==◌, nat_lt, List, [], ◌∷◌, length, filter, refl, sym, ap, ◌∙◌, arith}
+use Rattle.std.proofs.lemmas.Bool.Decides.{nat_tests}
+use Rattle.rl_names.specs.declared.query.Query.{Query}
+use Rattle.rl_defs.specs.Catalogue.{Catalogue}
+use Rattle.rl_build.specs.declared.context.Context.{Context}
+use Rattle.rl_loadphp.specs.declared.answers.Kind.{Kind}
+use Rattle.rl_loadphp.specs.declared.answers.Answer.{Answer}
+use Rattle.rl_loadphp.specs.Served.{names_of, query_context, is_served, served, missing}
+
+pub served_names : (c : Catalogue) (q : Query) (ctx : Context) (user : List ℕ) (names these : List (List ℕ))
+    → ctx ≡ query_context c q → user ≡ q.user → names ≡ names_of q → these ≡ filter (is_served c ctx user) names → these ≡ served c q
+served_names c q ctx user names these same_ctx same_user same_names is =
+    is ∙ ap (λ (x : Context). filter (is_served c x user) names) same_ctx
+    ∙ ap (λ u. filter (is_served c (query_context c q) u) names) same_user
+    ∙ ap (filter (is_served c (query_context c q) q.user)) same_names
+
+pub missing_names : (c : Catalogue) (q : Query) (ctx : Context) (user : List ℕ) (names these : List (List ℕ))
+    → ctx ≡ query_context c q → user ≡ q.user → names ≡ names_of q → these ≡ filter (λ (name : List ℕ). not (is_served c ctx user name)) names → these ≡ missing c q
+missing_names c q ctx user names these same_ctx same_user same_names is =
+    is ∙ ap (λ (x : Context). filter (λ (name : List ℕ). not (is_served c x user name)) names) same_ctx
+    ∙ ap (λ u. filter (λ (name : List ℕ). not (is_served c (query_context c q) u name)) names) same_user
+    ∙ ap (filter (λ (name : List ℕ). not (is_served c (query_context c q) q.user name))) same_names
+
+pub same_answer : (body of_body : List ℕ) (kind of_kind : Kind) (age of_age : ℕ) (private of_private : Bool) → body ≡ of_body → kind ≡ of_kind → age ≡ of_age → private ≡ of_private
+    → let answer : Answer = record { body = body; kind = kind; max_age = age; private = private } in
+    let wanted : Answer = record { body = of_body; kind = of_kind; max_age = of_age; private = of_private } in answer ≡ wanted
+same_answer body of_body kind of_kind age of_age private of_private e f g h = rw (e, f, g, h) refl
+
+some_told : (user : List ℕ) → not (length user == 0) ≡ nat_lt 0 (length user)
+some_told [] = refl
+some_told (b ∷ bs) = grind (arith, nat_tests)
+
+pub told : (empty : Bool) (read user : List ℕ) → empty ≡ (length read == 0) → read ≡ user → not empty ≡ nat_lt 0 (length user)
+told empty read user is same = rw (is, same) (some_told user)

@@ -1,0 +1,24 @@
+use Rattle.std.proofs.Common.{◌≡◌, ◌++◌, List, ℕ, string_bytes, codes, sym, ap, ◌∙◌}
+use Rattle.std.specs.List.{flat_map}
+use Rattle.rl_loadphp.specs.Body.{states_text}
+use Rattle.rl_loadphp.specs.Steps.{line_of, version_in}
+use Rattle.rl_loadphp.proofs.Made.{all_made, wire-missing, versions-payloads}
+use Rattle.rl_loadphp.proofs.lines.modules.Goals as goal
+
+pub returns-clause-body : goal.returns-clause-body
+returns-clause-body c =
+    let catalog = c.args.catalog.now in
+    let ctx = c.args.ctx.now in
+    let names = c.args.names.now in
+    let lines : string_bytes c.served.body ≡ flat_map (line_of catalog ctx) names.served.items =
+    all_made (line_of catalog ctx) _ _ names.served.items _ c.deref-name-items.ensures.value c.served-test.false c.served.invariant.body in
+    c.in_ok-push_states.ensures
+    ∙ ap (λ missing. string_bytes c.served.body ++ states_text (codes "missing") missing) c.deref.ensures.value
+    ∙ ap (λ text. text ++ states_text (codes "missing") names.missing.items) lines
+    ∙ sym (wire-missing catalog ctx names.served.items names.missing.items)
+
+pub returns-clause-versions : goal.returns-clause-versions
+returns-clause-versions c =
+    let names = c.args.names.now.served.items in
+    all_made (version_in c.args.catalog.now c.args.ctx.now) _ _ names _ c.deref-name-items.ensures.value c.served-test.false c.served.invariant.versions
+    ∙ sym (versions-payloads c.args.catalog.now c.args.ctx.now names)

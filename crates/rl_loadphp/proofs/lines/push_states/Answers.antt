@@ -1,0 +1,9 @@
+use Rattle.std.proofs.Common.{ℕ, List}
+use Rattle.rl_wire.specs.Line.{line, state_text}
+use Rattle.rl_loadphp.proofs.Made.{more_made}
+use Rattle.rl_loadphp.proofs.lines.push_states.Goals as goal
+
+pub names-preserved : goal.names-preserved
+names-preserved c =
+    more_made (λ (name : List ℕ). line (state_text name c.args.word.now)) _ _ _ c.args.names.now c.names.name-index c.name-item.result c.as_str.result.now
+    c.names-test.true c.name-item.is c.as_str.ensures c.names.invariant c.in_ok-push_state.ensures

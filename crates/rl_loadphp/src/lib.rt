@@ -1,0 +1,11 @@
+//! Answers to requests for modules, as load.php gives them.
+#![tactic(auto)]
+
+pub mod answers;
+mod lines;
+pub mod requests;
+mod serving;
+mod texts;
+
+pub use answers::{Answer, AnswerError, Kind};
+pub use requests::{answer, read_context};

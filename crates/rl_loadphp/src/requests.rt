@@ -1,0 +1,176 @@
+ghost use Rattle.std.specs.Prelude.{◌≡◌, ◌≢◌, IfOk, IfErr, Ok, Err, map, string_bytes};
+ghost use Rattle.rl_build.specs.Payload.{version_of};
+ghost use Rattle.rl_names.specs.Packing.{expand as expand_of};
+ghost use Rattle.rl_loadphp.specs.Served.{payloads, query_context};
+ghost use Rattle.rl_loadphp.specs.Body.{body_of};
+ghost use Rattle.rl_loadphp.specs.Answer.{answer_of, answer_to as answer_to_query, age_with, kind_of};
+ghost use Rattle.rl_loadphp.specs.Sent.{IsMadeOfPieces};
+ghost use Rattle.rl_names.specs.Query.{query_of};
+
+use crate::answers::{Answer, AnswerError, Kind};
+use crate::lines::modules;
+use crate::serving::{Asked, sort_out};
+use crate::texts::{scripts, styles, versions};
+use rl_build::Context;
+use rl_defs::Catalog;
+use rl_names::{NoMemory, Only, Query, Text, Version, combined, distinct, expand};
+use std::alloc::Global;
+
+/// The most bytes that a query may have.
+const MAX_QUERY: usize = 16_384;
+
+/// The most names that a query may have, repeats counted.
+const MAX_NAMES: usize = 1_000;
+
+/// The most bytes that an answer may have.
+const MAX_ANSWER: usize = 67_108_864;
+
+/// For how many seconds an answer may be kept that is what the query's version tells: 30 days.
+const LONG: u32 = 2_592_000;
+
+/// For how many seconds any other answer may be kept.
+const SHORT: u32 = 300;
+
+/// The context that a query asks for.
+pub fn read_context(alloc: Global, catalog: &Catalog, query: &Query) -> Result<Context, NoMemory>
+    ensures { IfOk result (λ ctx. ctx ≡ query_context catalog.now query.now) }
+{
+    Context::read(
+        alloc,
+        catalog,
+        query.lang.as_bytes(),
+        query.skin.as_bytes(),
+        query.debug,
+    )
+}
+
+/// How long an answer may be kept that has these versions.
+fn age(told: &str, versions: &[Version]) -> u32
+    ensures { result ≡ age_with told.now versions.now }
+{
+    if !told.is_empty() && told == combined(versions).as_str() {
+        LONG
+    } else {
+        SHORT
+    }
+}
+
+/// The same for what these names bring, which is looked at only where a version is told.
+fn age_of_names(
+    alloc: Global,
+    catalog: &Catalog,
+    ctx: &Context,
+    told: &str,
+    names: &[Text],
+) -> Result<u32, NoMemory>
+    ensures { IfOk result (λ n. n ≡ age_with told.now (map version_of (payloads catalog.now ctx.now names.now))) }
+{
+    if told.is_empty() {
+        return Ok(SHORT);
+    }
+    let versions = versions(alloc, catalog, ctx, names)?;
+    Ok(age(told, &versions))
+}
+
+/// A body and its age.
+#[derive(Drop)]
+struct Made {
+    body: String,
+    max_age: u32,
+}
+
+fn make(
+    alloc: Global,
+    catalog: &Catalog,
+    ctx: &Context,
+    query: &Query,
+    names: &Asked,
+) -> Result<Made, NoMemory>
+    ensures body { IfOk result (λ m. string_bytes m.body
+        ≡ body_of catalog.now ctx.now query.now.only names.now.served.items names.now.missing.items) }
+    ensures age { IfOk result (λ m. m.max_age
+        ≡ age_with query.now.version (map version_of (payloads catalog.now ctx.now names.now.served.items))) }
+{
+    let told = query.version.as_str();
+    match query.only {
+        Only::All => {
+            let made = modules(alloc, catalog, ctx, names)?;
+            let max_age = age(told, &made.versions);
+            Ok(Made {
+                body: made.body,
+                max_age,
+            })
+        }
+        Only::Scripts => {
+            let max_age = age_of_names(alloc, catalog, ctx, told, &names.served)?;
+            let body = scripts(alloc, catalog, ctx, names)?;
+            Ok(Made { body, max_age })
+        }
+        Only::Styles => {
+            let max_age = age_of_names(alloc, catalog, ctx, told, &names.served)?;
+            let body = styles(alloc, catalog, ctx, names)?;
+            Ok(Made { body, max_age })
+        }
+    }
+}
+
+fn kind(only: Only) -> Kind
+    ensures { result ≡ kind_of only }
+{
+    match only {
+        Only::All | Only::Scripts => Kind::Script,
+        Only::Styles => Kind::Style,
+    }
+}
+
+/// The answer to a query that asks for these names, however long.
+fn answer_to(
+    alloc: Global,
+    catalog: &Catalog,
+    query: &Query,
+    asked: &[Text],
+) -> Result<Answer, NoMemory>
+    requires { asked.now ≡ expand_of query.now.modules }
+    ensures { IfOk result (λ a. a ≡ answer_to_query catalog.now query.now) }
+{
+    let ctx = read_context(alloc, catalog, query)?;
+    let names = distinct(alloc, asked)?;
+    let names = sort_out(alloc, catalog, &ctx, query.user.as_str(), names)?;
+    let made = make(alloc, catalog, &ctx, query, &names)?;
+    Ok(Answer {
+        body: Text::from_string(made.body),
+        kind: kind(query.only),
+        max_age: made.max_age,
+        private: !query.user.as_str().is_empty(),
+    })
+}
+
+/// The answer to the bytes of a query, for a viewer who is nobody. A query that is too long is not
+/// read, and of one with too many names none is looked up.
+pub fn answer(alloc: Global, catalog: &Catalog, query: &[u8]) -> Result<Answer, AnswerError>
+    ensures ok { IfOk result (λ a. answer_of catalog.now query.now ≡ Ok a) }
+    ensures refused { IfErr result (λ e. e ≢ AnswerError.NoMemory → answer_of catalog.now query.now ≡ Err e) }
+
+    // Nothing of a private module is sent, nor of one that another wiki serves, nor of another
+    // user's.
+    ensures pieces { IfOk result (λ a. IsMadeOfPieces catalog.now (query_of query.now) a.body) }
+{
+    if query.len() > MAX_QUERY {
+        return Err(AnswerError::QueryTooLong {
+            len: query.len() as u64,
+        });
+    }
+    let query = Query::read(alloc, query)?;
+    let asked = expand(alloc, query.modules.as_str())?;
+    if asked.len() > MAX_NAMES {
+        return Err(AnswerError::TooManyNames {
+            count: asked.len() as u64,
+        });
+    }
+    let answer = answer_to(alloc, catalog, &query, &asked)?;
+    let len = answer.body.as_bytes().len();
+    if len > MAX_ANSWER {
+        return Err(AnswerError::AnswerTooLong { len: len as u64 });
+    }
+    Ok(answer)
+}

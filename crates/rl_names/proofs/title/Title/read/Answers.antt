@@ -1,0 +1,12 @@
+use Rattle.std.proofs.Common.{ap, sym, ◌∙◌}
+use Rattle.rl_names.specs.Title.{spaced, is_title}
+use Rattle.rl_names.proofs.TitleLaw.{no_title, title_spelt}
+use Rattle.rl_names.proofs.title.Title.read.Goals as goal
+
+pub returns-in_default : goal.returns-in_default
+returns-in_default c = no_title c.args.bytes.now c.in_default.ensures.cases.0
+
+pub returns-then-is_title : goal.returns-then-is_title
+returns-then-is_title c = title_spelt c.args.bytes.now c.in_ok-text.text.bytes.items c.in-Ok.ensures.cases.1
+    (ap spaced (sym c.in-Ok.ensures.cases.0) ∙ sym c.in_ok-text.ensures)
+    (ap is_title (sym c.as_bytes.ensures.value) ∙ sym c.is_title.ensures ∙ c.if-is_title.true)

@@ -1,0 +1,10 @@
+pub mod Cut
+pub mod Grouping
+pub mod Hash
+pub mod Key
+pub mod Name
+pub mod Packing
+pub mod Query
+pub mod QuerySteps
+pub mod Spacing
+pub mod Title

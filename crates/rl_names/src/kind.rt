@@ -1,0 +1,6 @@
+/// What a state line says of a module that is not served.
+#[derive(Clone, Copy, Debug, PartialEq, Eq)]
+pub enum StateKind {
+    Missing,
+    Error,
+}

@@ -1,0 +1,28 @@
+//! The vocabulary of the wiki's load protocol: texts, names, versions, keys and registry rows.
+#![tactic(auto)]
+
+pub mod counted;
+pub mod hash;
+pub mod kind;
+pub mod name;
+pub mod packing;
+pub mod part;
+pub mod query;
+pub mod row;
+#[cfg(test)]
+mod tests;
+pub mod text;
+pub mod title;
+pub mod user_name;
+
+pub use counted::Counted;
+pub use hash::{Hasher, combined, hash5};
+pub use kind::StateKind;
+pub use name::{Key, KeyError, Name, NameError, Version};
+pub use packing::{distinct, expand, pack, packed_order};
+pub use part::{Message, Source};
+pub use query::{Only, Query, encoded_len_of};
+pub use row::{Dep, Group, Row};
+pub use text::{Blob, NoMemory, Seq, Text};
+pub use title::{Title, TitleError};
+pub use user_name::{UserName, UserNameError};

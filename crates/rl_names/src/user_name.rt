@@ -1,0 +1,153 @@
+//! The names of users.
+ghost use Rattle.std.specs.Prelude.{◌≡◌, ◌==◌};
+ghost use Rattle.std.specs.List.{list_any};
+ghost use Rattle.rl_names.specs.Title.{is_user_name};
+
+use crate::title::{is_title, spaced};
+use std::alloc::{AllocError, Global};
+use std::marker::Model;
+use std::str;
+use thiserror::Error;
+
+/// Why bytes are no user name.
+#[derive(Clone, Copy, Debug, PartialEq, Eq, Error)]
+pub enum UserNameError {
+    #[error("not a user name")]
+    BadUserName,
+    #[error("out of memory")]
+    NoMemory,
+}
+
+impl From<AllocError> for UserNameError {
+    ghost use Rattle.std.specs.Prelude.{◌≡◌};
+    ghost use Rattle.rl_names.specs.declared.user_name.UserNameError.TheVariants.{NoMemory};
+
+    ghost from_gives = { λ _ e. e ≡ NoMemory };
+
+    fn from(_error: AllocError) -> Self {
+        UserNameError::NoMemory
+    }
+}
+
+/// The name of a user: a title of at most 85 bytes without a slash. Nobody has none.
+#[derive(Drop)]
+pub struct UserName {
+    text: String,
+}
+
+impl Model for UserName {
+    ghost use Rattle.std.specs.Prelude.{List, ℕ, IsTrue, string_bytes};
+    ghost use Rattle.rl_names.specs.Title.{is_user_name};
+
+    ghost Value = { List ℕ };
+
+    ghost view = { λ n. string_bytes n.text };
+
+    ghost invariant = { λ n. IsTrue (is_user_name (string_bytes n.text)) };
+}
+
+impl UserName {
+    ghost use Rattle.std.specs.Prelude.{IsTrue, string_bytes};
+    ghost use Rattle.rl_names.specs.Title.{user_name_of, ReadsUserName};
+
+    /// Reads a user name, as a title is read. No bytes at all are no name: they stand for nobody, and a caller who
+    /// takes nobody asks for that first.
+    pub fn read(alloc: Global, bytes: &[u8]) -> Result<UserName, UserNameError>
+        ensures { ReadsUserName result (user_name_of bytes.now) }
+    {
+        let Ok(text) = str::from_utf8(bytes) else {
+            return Err(UserNameError::BadUserName);
+        };
+        let text = spaced(alloc, text)?;
+        if is_user_name(text.as_bytes()) {
+            Ok(UserName { text })
+        } else {
+            Err(UserNameError::BadUserName)
+        }
+    }
+
+    pub fn as_bytes(&self) -> &[u8]
+        ensures value { result.now ≡ self.now }
+        ensures name { IsTrue (is_user_name self.now) }
+    {
+        self.text.as_bytes()
+    }
+
+    /// The name as a text that may be kept by itself.
+    pub fn into_string(self) -> String
+        ensures { string_bytes result ≡ self }
+    {
+        let UserName { text } = self;
+        text
+    }
+}
+
+fn has_slash(bytes: &[u8]) -> bool
+    ensures { result ≡ list_any (λ b. b == 47) bytes.now }
+{
+    bytes.iter().any(|b| *b == b'/')
+}
+
+/// Whether a text is a user name as it stands.
+fn is_user_name(bytes: &[u8]) -> bool
+    ensures { result ≡ is_user_name bytes.now }
+{
+    is_title(bytes) && bytes.len() <= 85 && !has_slash(bytes)
+}
+
+#[cfg(test)]
+mod tests {
+    use super::*;
+    use crate::title::Title;
+
+    /// The title that bytes spell, or nothing.
+    fn title(rt: &HostRuntime, bytes: &[u8]) -> String {
+        match Title::read(rt.alloc(), bytes) {
+            Ok(title) => {
+                let text = str::from_utf8(title.as_bytes()).unwrap_or("?");
+                String::from_str(rt.alloc(), text).unwrap_or(String::new(rt.alloc()))
+            }
+            Err(_) => String::new(rt.alloc()),
+        }
+    }
+
+    #[test]
+    fn titles_and_user_names(rt: HostRuntime) {
+        let long = [b'a'; 256];
+        for (bytes, want) in [
+            (&b"_Main__Page _"[..], "Main Page"),
+            (b"MediaWiki:Common.js", "MediaWiki:Common.js"),
+            (
+                "User:Zo\u{e9}/common.css".as_bytes(),
+                "User:Zo\u{e9}/common.css",
+            ),
+            (b"", ""),
+            (b" __ ", ""),
+            (b"a#b", ""),
+            (b"a<b", ""),
+            (b"a>b", ""),
+            (b"a[b", ""),
+            (b"a]b", ""),
+            (b"a{b", ""),
+            (b"a}b", ""),
+            (b"a|b", ""),
+            (b"a\tb", ""),
+            (b"a\x7Fb", ""),
+            (b"a\xFFb", ""),
+        ] {
+            assert_eq!(rt; title(&rt, bytes).as_str(), want);
+        }
+        assert_eq!(rt; title(&rt, &long[..255]).len(), 255);
+        assert_eq!(rt; title(&rt, &long).len(), 0);
+        for (bytes, good) in [
+            (&b"Ann"[..], true),
+            (b" Ann_Lee ", true),
+            (b"", false),
+            (b"Ann/Lee", false),
+            (&long[..85], true),
+            (&long[..86], false),
+        ] {
+            assert_eq!(rt; UserName::read(rt.alloc(), bytes).is_ok(), good);
+        }
+    }
+}

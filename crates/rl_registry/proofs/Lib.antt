@@ -1,0 +1,13 @@
+pub mod Alike
+pub mod Blamed
+pub mod Kept
+pub mod Leasts
+pub mod Loops
+pub mod Marked
+pub mod Named
+pub mod Ordered
+pub mod RowsRead
+pub mod Searching
+pub mod Unknowns
+pub mod Versions
+pub mod Visiting

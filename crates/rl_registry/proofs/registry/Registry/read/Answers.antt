@@ -1,0 +1,28 @@
+use Rattle.std.proofs.Common.{◌≡◌, None, List, sym, subst, ◌∙◌, rules}
+use Rattle.rl_names.specs.declared.row.Row.{Row}
+use Rattle.rl_view_spec.specs.Closure.{least}
+use Rattle.rl_view_spec.specs.Breach.{repeated}
+use Rattle.rl_view_spec.proofs.Resolve.{least_none}
+use Rattle.rl_registry.specs.Index.{AreDistinct, IsIndex}
+use Rattle.rl_registry.proofs.RowsRead.{distinct_from_once, within_from_names}
+use Rattle.rl_registry.proofs.registry.Registry.read.Goals as goal
+
+-- where no name stands twice names are distinct
+distinct : (rows given : List Row) → given ≡ rows → None ≡ least (repeated given) → AreDistinct rows
+distinct rows given e none = subst (λ (rs : List Row). AreDistinct rs) e (distinct_from_once given (least_none (repeated given) (sym none)))
+
+pub all_edges-requires-clause-distinct : goal.all_edges-requires-clause-distinct
+all_edges-requires-clause-distinct c =
+    distinct c.as_slice-6.result.now c.as_slice-3.result.now (c.as_slice-3.ensures.value ∙ sym c.as_slice-6.ensures.value) c.in_default-least_repeated.ensures
+
+pub invariant_of-result : goal.invariant_of-result
+invariant_of-result c = record {
+  few = search rules;
+  within = within_from_names (record { rows = c.args.rows.items; features = c.in_ok-features.features.items }) c.requires.dependencies;
+  index = subst (λ (rows : List Row). IsIndex rows c.in_ok-order.order.items) c.as_slice-2.ensures.value c.in_ok-order.ensures;
+  skips_are = rw (c.in_ok-features.ensures, ← c.as_slice-5.ensures.value) c.in_ok-skips.ensures;
+  has_edges = record {
+    distinct = distinct c.args.rows.items c.as_slice-3.result.now c.as_slice-3.ensures.value c.in_default-least_repeated.ensures;
+    edges_are = rw (c.in_ok-features.ensures, ← c.as_slice-6.ensures.value) c.in_ok-edges.ensures;
+  };
+}

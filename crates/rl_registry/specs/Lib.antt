@@ -1,0 +1,6 @@
+pub mod Rows
+pub mod Answered
+pub mod Graph
+pub mod Index
+pub mod Kept
+pub mod Search

@@ -1,0 +1,44 @@
+-- What is looked through for the least name to blame.
+use Rattle.std.specs.Prelude.{◌≡◌, ℕ, ◌<◌, List, [], ◌∷◌, ◌++◌, Bool, true, false, filter, flat_map, length, is_none, option_and_then, slice_get, slice_index, Contains, Option, Some, None}
+use Rattle.std.specs.Option.{option_map_or}
+use Rattle.std.specs.Ordering.{nat_cmp, is_lt}
+use Rattle.std.specs.Cmp.Lexicographic.{slice_cmp}
+use Rattle.rl_names.specs.declared.row.Dep.{Dep}
+use Rattle.rl_view_spec.specs.Closure.{Text, Registered, deps_of_row, dep_name, lesser}
+use Rattle.rl_view_spec.specs.Numbers.{number_of, closure_numbers}
+use Rattle.rl_view_spec.specs.Progress.{name_at}
+use Rattle.rl_registry.specs.Graph.{Edges, HasEdge}
+
+-- those of the texts that no row has as its name
+abbrev pub unknown : Registered → List Text → List Text
+unknown r names = filter (λ name. is_none (number_of r name)) names
+
+-- the names that a row depends on and that no row has
+abbrev pub unknown_of : Registered → ℕ → List Text
+unknown_of r row = unknown r (deps_of_row r (slice_get r.rows row))
+
+-- the names of the closures without a row: they are given, or a row of the closures depends on them
+abbrev pub unknown_in : Registered → List Text → List Text
+unknown_in r names = unknown r names ++ flat_map (unknown_of r) (closure_numbers r names)
+
+abbrev pub if_unknown : Registered → Text → Option Text
+if_unknown r name = option_map_or (λ row. None) (number_of r name) (Some name)
+
+-- the name of a dependency, where no row has it
+abbrev pub unknown_dep : Registered → Dep → Option Text
+unknown_dep r dep = option_and_then (if_unknown r) (dep_name r dep)
+
+-- the least of the texts and of the one found before, if there is one
+abbrev pub least_from : Option Text → List Text → Option Text
+least_from found [] = found
+least_from found (text ∷ texts) = least_from (Some (lesser text found)) texts
+
+-- the row of least name, in byte order, of those that pass the test, or none where none passes
+abbrev pub IsLeastRow : Registered → (ℕ → Bool) → Option ℕ → Type 0
+IsLeastRow r test None = (k : ℕ) → k < length r.rows → test k ≡ false
+IsLeastRow r test (Some row) =
+    (row < length r.rows) × (test row ≡ true) × ((k : ℕ) → k < length r.rows → test k ≡ true → is_lt (slice_cmp nat_cmp (name_at r k) (name_at r row)) ≡ false)
+
+-- along each edge from these numbers the rank falls
+abbrev pub FallFrom : Edges → List ℕ → List ℕ → Type 0
+FallFrom edges ranks rows = (a b : ℕ) → Contains rows a → HasEdge edges a b → slice_index ranks b < slice_index ranks a

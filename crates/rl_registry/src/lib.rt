@@ -1,0 +1,14 @@
+//! The registry of a view: its rows, and what they need of one another.
+#![tactic(auto)]
+
+pub mod error;
+mod graph;
+mod index;
+mod ranks;
+pub mod registry;
+mod rows;
+#[cfg(test)]
+mod tests;
+
+pub use error::{RegistryError, ResolveError};
+pub use registry::Registry;

@@ -1,0 +1,5 @@
+use Rattle.rl_script.proofs.Members.{array_texts}
+use Rattle.rl_script.proofs.line.deps_in.Goals as goal
+
+pub returns-in-Array : goal.returns-in-Array
+returns-in-Array c = rw (array_texts c.args.value c.in-Array.values c.in-Array.is) c.deps_of.ensures

@@ -1,0 +1,5 @@
+pub mod Order
+pub mod Printed
+pub mod Registrable
+mod Lines
+mod Worked

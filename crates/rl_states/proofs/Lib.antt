@@ -1,0 +1,9 @@
+pub mod Changes
+pub mod MarksLemmas
+pub mod Needs
+pub mod Runs
+pub mod Spreading
+pub mod StandingsLemmas
+pub mod Tables
+pub mod UsersLemmas
+pub mod Versions

@@ -1,0 +1,218 @@
+ghost use Rattle.std.specs.Prelude.{◌≡◌};
+ghost use Rattle.rl_states.specs.Standings.{phase_by};
+ghost use Rattle.rl_view_spec.specs.Progress.{is_lost};
+
+use crate::spoiled::Spoiled;
+use crate::standing::{Standing, first_that_may_run, open_standings, release, touch_all};
+use crate::users::Users;
+use rl_names::{NoMemory, Version};
+use rl_registry::Registry;
+use rl_view_spec::{Outcome, Phase};
+use std::alloc::Global;
+use std::marker::Model;
+
+/// How far the rows of a registry have come: which were requested, what they were answered with, and which ran.
+#[derive(Drop)]
+pub struct Table {
+    registry: Registry,
+    standings: Vec<Standing>,
+    users: Users,
+    spoiled: Spoiled,
+    log: Vec<u32>,
+    threw: Vec<bool>,
+    executing: Option<u32>,
+}
+
+impl Model for Table {
+    ghost use Rattle.rl_view_spec.specs.Progress.{Progress};
+
+    ghost Value = { Progress };
+
+    ghost use Rattle.rl_states.specs.Kept.{progress_in, IsKept};
+
+    ghost view = { progress_in };
+
+    ghost invariant = { IsKept };
+}
+
+impl Table {
+    ghost use Rattle.std.specs.Prelude.{◌≡◌, ◌≢◌, ◌<◌, length, map, All, IfOk, IfSome, IsTrue, IsFalse, is_some};
+    ghost use Rattle.rl_view_spec.specs.Progress.{is_touched_at, is_skipped_at, outcome_at, has_run, next_row, phase_of};
+    ghost use Rattle.rl_registry.specs.Rows.{with_version};
+    ghost use Rattle.rl_states.specs.Changes.{fresh_progress, after_touch, after_outcome, after_ran};
+
+    /// The table of a registry of which nothing was requested. It takes the room for all that comes.
+    pub fn open(alloc: Global, registry: Registry) -> Result<Table, NoMemory>
+        ensures { IfOk result (λ table. table ≡ fresh_progress registry) }
+    {
+        let count = registry.count();
+        let standings = open_standings(alloc, &registry)?;
+        let users = Users::open(alloc, &registry)?;
+        let spoiled = Spoiled::open(alloc, count)?;
+        let log = Vec::with_capacity(alloc, count as usize)?;
+        let threw = Vec::with_capacity(alloc, count as usize)?;
+        Ok(Table {
+            registry,
+            standings,
+            users,
+            spoiled,
+            log,
+            threw,
+            executing: None,
+        })
+    }
+
+    pub fn registry(&self) -> &Registry
+        ensures { result.now ≡ self.now.registered }
+    {
+        &self.registry
+    }
+
+    /// Gives a row this version.
+    pub fn registry_mut(&mut self, row: u32, version: Version)
+        requires { row < length self.old.registered.rows }
+        ensures { self.new ≡ record self.old { registered = with_version self.old.registered row version } }
+    {
+        self.registry.set_version(row, version);
+    }
+
+    /// Notes that rows were requested.
+    pub fn touch(&mut self, rows: &[u32])
+        requires { All (λ row. row < length self.old.registered.rows) rows.now }
+        ensures { self.new ≡ after_touch rows.now self.old }
+    {
+        touch_all(self.standings.as_mut_slice(), rows);
+    }
+
+    /// Whether a row was requested.
+    pub fn touched(&self, row: u32) -> bool
+        ensures { result ≡ is_touched_at self.now row }
+    {
+        match self.standings.get(row as usize) {
+            Some(standing) => standing.touched,
+            None => false,
+        }
+    }
+
+    /// Notes what a row was answered with.
+    pub fn outcome(&mut self, row: u32, outcome: Outcome)
+        requires touched { IsTrue (is_touched_at self.old row) }
+        requires kept { IsFalse (is_skipped_at self.old.registered row) }
+        requires first { outcome_at self.old row ≡ None }
+        requires idle { self.old.executing ≡ None }
+        ensures { self.new ≡ after_outcome row outcome self.old }
+    {
+        self.standings[row as usize].outcome = Some(outcome);
+        if is_lost(outcome) {
+            self.spoiled.add(&self.users, row);
+        }
+    }
+
+    /// Whether a row was answered.
+    pub fn has_outcome(&self, row: u32) -> bool
+        ensures { result ≡ is_some (outcome_at self.now row) }
+    {
+        match self.standings.get(row as usize) {
+            Some(standing) => standing.outcome.is_some(),
+            None => false,
+        }
+    }
+
+    /// The row that would run next: of those that may, the least. None exactly where none may.
+    pub fn first_run(&self) -> Option<u32>
+        ensures { result ≡ next_row self.now }
+    {
+        match first_that_may_run(self.standings.as_slice()) {
+            Some(row) => Some(row as u32),
+            None => None,
+        }
+    }
+
+    /// The row that runs next: of those that may, the least. It is executing from then on. None exactly where none may.
+    pub fn next_run(&mut self) -> Option<u32>
+        requires { self.old.executing ≡ None }
+        ensures row { result ≡ next_row self.old }
+        ensures after { self.new ≡ record self.old { executing = result } }
+        ensures fewer { IfSome result (λ row. length self.old.ran < length self.old.registered.rows) }
+    {
+        let row = self.first_run();
+        self.executing = row;
+        row
+    }
+
+    /// Notes that the executing row ran, and whether an observer threw.
+    pub fn ran(&mut self, row: u32, threw: bool)
+        requires { self.old.executing ≡ Some row }
+        ensures { self.new ≡ after_ran row threw self.old }
+    {
+        self.log.push(row).unwrap();
+        self.threw.push(threw).unwrap();
+        self.executing = None;
+        let standing = &mut self.standings[row as usize];
+        standing.ran = true;
+        standing.done = !threw;
+        if threw {
+            self.spoiled.add(&self.users, row);
+        } else {
+            release(self.standings.as_mut_slice(), self.users.of(row));
+        }
+    }
+
+    /// Whether a row ran.
+    pub fn has_run(&self, row: u32) -> bool
+        ensures { result ≡ has_run self.now row }
+    {
+        match self.standings.get(row as usize) {
+            Some(standing) => standing.ran,
+            None => false,
+        }
+    }
+
+    /// The state of a row. It is meant for when no row may run.
+    pub fn state(&self, row: u32) -> Phase
+        requires { row < length self.now.registered.rows }
+        ensures executing { self.now.executing ≡ Some row → result ≡ Phase.Executing }
+        ensures resting { self.now.executing ≢ Some row → result ≡ phase_of self.now row }
+    {
+        if self.executing == Some(row) {
+            return Phase::Executing;
+        }
+        resting_phase(&self.standings[row as usize], self.spoiled.has(row))
+    }
+
+    /// The rows that ran, in order.
+    pub fn log(&self) -> &[u32]
+        ensures { result.now ≡ map (λ run. run.0) self.now.ran }
+    {
+        self.log.as_slice()
+    }
+}
+
+/// Whether an outcome leads to no run.
+fn is_lost(outcome: Outcome) -> bool
+    ensures { result ≡ is_lost (Some outcome) }
+{
+    match outcome {
+        Outcome::Impl => false,
+        Outcome::Missing | Outcome::Error | Outcome::GivenUp => true,
+    }
+}
+
+/// The state of a row that is not executing.
+fn resting_phase(standing: &Standing, spoiled: bool) -> Phase
+    ensures { result ≡ phase_by standing.now spoiled }
+{
+    if !standing.touched {
+        Phase::Registered
+    } else if standing.done {
+        Phase::Ready
+    } else if standing.outcome == Some(Outcome::Missing) {
+        Phase::Missing
+    } else if spoiled {
+        Phase::Error
+    } else if standing.outcome == Some(Outcome::Impl) {
+        Phase::Loaded
+    } else {
+        Phase::Loading
+    }
+}

@@ -1,0 +1,12 @@
+pub mod Breach
+pub mod Closure
+pub mod Direct
+pub mod Headline
+pub mod Laws
+pub mod Numbers
+pub mod Order
+pub mod Progress
+pub mod Reach
+pub mod Rows
+pub mod Steps
+pub mod View

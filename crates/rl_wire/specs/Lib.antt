@@ -1,0 +1,4 @@
+pub mod Message
+pub mod Payload
+pub mod Line
+pub mod Tokens

@@ -1,0 +1,84 @@
+//! The lines of answers, added to a text.
+ghost use Rattle.std.specs.Prelude.{◌≡◌, ◌++◌, ◌∷◌, [], IfOk, OnOk, string_bytes};
+ghost use Rattle.rl_names.specs.Name.{key_text};
+ghost use Rattle.rl_wire.specs.Message.{AreAscending};
+ghost use Rattle.rl_wire.specs.Line.{line, implement_text, state_text};
+
+use crate::values::{add_module, add_word};
+use rl_names::{Message, NoMemory, Version};
+use std::alloc::Global;
+
+/// The key of a module, as a text of its own.
+fn key_of(alloc: Global, name: &str, version: Version) -> Result<String, NoMemory>
+    ensures { IfOk result (λ t. string_bytes t ≡ key_text name.now version) }
+{
+    let mut key = String::from_str(alloc, name)?;
+    key.push_str("@")?;
+    version.push_to(&mut key)?;
+    Ok(key)
+}
+
+/// Adds the line of an implementation, without its end.
+pub(crate) fn add_implementation(
+    alloc: Global,
+    out: &mut String,
+    name: &str,
+    version: Version,
+    script: &str,
+    styles: &str,
+    messages: &[Message],
+) -> Result<(), NoMemory>
+    ensures { OnOk result (string_bytes out.new ≡ string_bytes out.old
+        ++ implement_text name.now version script.now styles.now messages.now) }
+{
+    let key = key_of(alloc, name, version)?;
+    out.push_str("mw.loader.implement(")?;
+    add_module(alloc, out, key.as_str(), script, styles, messages)?;
+    out.push_str(");")?;
+    Ok(())
+}
+
+/// Adds the line of a state, without its end.
+pub(crate) fn add_state(
+    alloc: Global,
+    out: &mut String,
+    name: &str,
+    word: &str,
+) -> Result<(), NoMemory>
+    ensures { OnOk result (string_bytes out.new ≡ string_bytes out.old ++ state_text name.now word.now) }
+{
+    out.push_str("mw.loader.state(")?;
+    add_word(alloc, out, name, word)?;
+    out.push_str(");")?;
+    Ok(())
+}
+
+/// Adds the line that brings a module. After want of memory nothing is said of the text.
+pub fn push_implementation(
+    alloc: Global,
+    out: &mut String,
+    name: &str,
+    version: Version,
+    script: &str,
+    styles: &str,
+    messages: &[Message],
+) -> Result<(), NoMemory>
+    requires { AreAscending messages.now }
+    ensures { OnOk result (string_bytes out.new ≡ string_bytes out.old
+        ++ line (implement_text name.now version script.now styles.now messages.now)) }
+{
+    add_implementation(alloc, out, name, version, script, styles, messages)?;
+    out.push_str("\n")?;
+    Ok(())
+}
+
+/// Adds the line that gives a name the state of this word. After want of memory nothing is said of
+/// the text.
+pub fn push_state(alloc: Global, out: &mut String, name: &str, word: &str) -> Result<(), NoMemory>
+    ensures { OnOk result (string_bytes out.new ≡ string_bytes out.old
+        ++ line (state_text name.now word.now)) }
+{
+    add_state(alloc, out, name, word)?;
+    out.push_str("\n")?;
+    Ok(())
+}
