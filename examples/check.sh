@@ -1,6 +1,7 @@
 #!/bin/sh
 # Runs the program on every example, and compares what it prints and its status with what is stored. An example is a folder
-# with `args` (one word a line), the files that the words name, `stdout`, and `status` where it is not 0.
+# with `args` (one word a line), the files that the words name, `stdout`, `status` where it is not 0, and `stderr` where
+# standard error is compared too.
 examples=$(CDPATH='' cd -- "$(dirname -- "$0")" && pwd) || exit 1
 top=$(dirname -- "$examples")
 "$top/loader.sh" --version >/dev/null || exit 1
@@ -26,6 +27,7 @@ check() {
     status=$?
     same=0
     cmp -s "$scratch/stdout" "$folder/stdout" || same=1
+    [ ! -f "$folder/stderr" ] || cmp -s "$scratch/stderr" "$folder/stderr" || same=1
     [ "$status" = "$wanted" ] || same=1
     [ "$same" -ne 0 ] || return 0
     echo "examples: $(basename "$folder") ended with $status, and $wanted is stored"

@@ -2,7 +2,7 @@
 #![tactic(auto)]
 
 use rl_base::{DirTree, StdSink};
-use rl_cli::{Report, Status, run};
+use rl_cli::{Report, Status, breach_of, run};
 use std::alloc::AllocError;
 use std::env;
 use std::io::ErrorKind;
@@ -48,7 +48,17 @@ fn answer(rt: &HostRuntime, words: &[&str]) -> Status {
 /// Says on standard error what is wrong, if anything is, and gives the exit code.
 fn ended(rt: &HostRuntime, words: &[&str], status: Status) -> ExitCode {
     if status != Status::Done {
-        let report = Report { words, status };
+        let breach = match status {
+            Status::BadInput { .. } => {
+                breach_of(rt.alloc(), words, &mut DirTree::new(rt, rt.alloc()))
+            }
+            _ => None,
+        };
+        let report = Report {
+            words,
+            status,
+            breach: breach.as_ref(),
+        };
         // Where standard error takes nothing either, the code still tells.
         let _ = eprintln!(rt; "loader: {report}");
     }

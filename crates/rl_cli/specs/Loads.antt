@@ -1,5 +1,6 @@
 -- What `load` makes of definitions and a query.
-use Rattle.std.specs.Prelude.{◌≡◌, true, Result, Ok, Err}
+use Rattle.std.specs.Prelude.{◌≡◌, true, List, Option, Some, Result, Ok, Err}
+use Rattle.rl_base.specs.Files.{Files}
 use Rattle.rl_names.specs.declared.counted.Counted.TheVariants as counted
 use Rattle.rl_view_spec.specs.Closure.{Text}
 use Rattle.rl_script_spec.specs.Script.{Verdict, Prints, BadLine, TooMany}
@@ -11,6 +12,8 @@ use Rattle.rl_loadphp.specs.Answer.{answer_of}
 use Rattle.rl_loadphp.specs.declared.answers.Answer.{Answer}
 use Rattle.rl_loadphp.specs.declared.answers.AnswerError.{AnswerError}
 use Rattle.rl_loadphp.specs.declared.answers.AnswerError.TheVariants as refusals
+use Rattle.rl_cli.specs.Files.{IsFile}
+use Rattle.rl_cli.specs.Words.{Load, command_of}
 use Rattle.rl_cli.specs.declared.load.LoadError.{LoadError}
 use Rattle.rl_cli.specs.declared.load.LoadError.TheVariants as errors
 
@@ -51,3 +54,7 @@ Loads (Ok body) verdict = verdict ≡ Prints body true
 Loads (Err (errors.BadDefinitions why)) verdict = verdict ≡ BadLine 0 why
 Loads (Err (errors.TooLarge what count)) verdict = verdict ≡ TooMany what count
 Loads (Err errors.NoMemory) verdict = Unit {0}
+
+-- the definitions that the words name are refused for this breach
+abbrev pub Breaks : Option Files → List Text → CatalogError → Type 0
+Breaks told words breach = (definitions query bytes : Text) × (command_of words ≡ Some (Load definitions query)) × IsFile told definitions bytes × (reading bytes ≡ Err breach)

@@ -2,6 +2,7 @@
 //! ended.
 #![tactic(auto)]
 
+mod breach;
 mod call;
 mod file;
 mod load;
@@ -10,6 +11,7 @@ mod report;
 mod status;
 mod words;
 
+pub use breach::breach_of;
 pub use call::run;
 pub use report::Report;
 pub use status::{Ended, Status};

@@ -1,4 +1,5 @@
 use crate::status::Status;
+use rl_defs::CatalogError;
 use rl_names::Counted;
 use std::fmt;
 
@@ -9,6 +10,8 @@ pub struct Report<'a> {
     /// The words of the call.
     pub words: &'a [&'a str],
     pub status: Status,
+    /// The rule that definitions break, where it is known ([`breach_of`](crate::breach_of)).
+    pub breach: Option<&'a CatalogError>,
 }
 
 impl<'a> Report<'a> {
@@ -55,6 +58,26 @@ fn limit(what: Counted) -> &'static str {
     }
 }
 
+/// Writes the rule that definitions break, with the module and the field.
+fn write_breach<W: fmt::Write>(f: &mut fmt::Formatter<W>, breach: &CatalogError) -> fmt::Result {
+    match breach {
+        CatalogError::UnknownField { module, field } if module.as_str().is_empty() => {
+            write!(
+                f,
+                "`{field}` is unknown, or its value is none that it may have"
+            )
+        }
+        CatalogError::UnknownField { module, field } if field.as_str().is_empty() => {
+            write!(f, "module `{module}` is no table")
+        }
+        CatalogError::UnknownField { module, field } => write!(
+            f,
+            "module `{module}`: `{field}` is unknown, or its value is none that it may have"
+        ),
+        other => write!(f, "{other}"),
+    }
+}
+
 impl<'a> fmt::Display for Report<'a> {
     fn fmt<W: fmt::Write>(&self, f: &mut fmt::Formatter<W>) -> fmt::Result {
         let file = self.word(1);
@@ -66,7 +89,11 @@ impl<'a> fmt::Display for Report<'a> {
             Status::BadInput { word, line, why } => {
                 let file = self.word(word);
                 let rule = rule(why);
-                if line == 0 {
+                if let Some(breach) = self.breach {
+                    write!(f, "{file}: ")?;
+                    write_breach(f, breach)?;
+                    write!(f, " ({why})")
+                } else if line == 0 {
                     write!(f, "{file}: {rule} ({why})")
                 } else {
                     write!(f, "{file}, line {line}: {rule} ({why})")

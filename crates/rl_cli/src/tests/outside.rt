@@ -2,7 +2,7 @@ ghost use Rattle.std.specs.Prelude.{◌≡◌, ◌≢◌, ◌≤◌, [], IfOk, I
 
 use super::tree_of;
 use crate::report::Report;
-use crate::{Status, run};
+use crate::{Status, breach_of, run};
 use rl_base::{DirTree, FetchError, MemSink, MemTree, Sink, SinkError, StdSink, Tree};
 use rl_names::Counted;
 use std::alloc::Global;
@@ -185,8 +185,50 @@ fn line(alloc: Global, status: Status) -> Result<String, Fail> {
     let report = Report {
         words: &words,
         status,
+        breach: None,
     };
     Ok(format!(in alloc; "{report}")?)
+}
+
+/// The line that a person reads of these definitions.
+fn line_of_definitions(alloc: Global, definitions: &str) -> Result<String, Fail> {
+    let words = ["load", "wiki.toml", "-", "-", ""];
+    let mut tree = tree_of(alloc, "wiki.toml", definitions.as_bytes())?;
+    let mut out = MemSink::new(alloc, Vec::new(alloc))?;
+    let status = run(alloc, &words, &mut tree, &mut out, Vec::new(alloc)).status;
+    let breach = breach_of(alloc, &words, &mut tree);
+    let report = Report {
+        words: &words,
+        status,
+        breach: breach.as_ref(),
+    };
+    Ok(format!(in alloc; "{report}")?)
+}
+
+#[test]
+fn what_is_told_of_definitions(rt: HostRuntime) -> Result<(), Fail> {
+    for (definitions, text) in [
+        ("[", "wiki.toml: the file is not TOML (11)"),
+        (
+            "wiki.colour = 1",
+            "wiki.toml: `colour` is unknown, or its value is none that it may have (12)",
+        ),
+        ("modules.a = 3", "wiki.toml: module `a` is no table (12)"),
+        (
+            "modules.a.x = 3",
+            "wiki.toml: module `a`: `x` is unknown, or its value is none that it may have (12)",
+        ),
+        (
+            "modules.a.dependencies = [\"b\"]",
+            "wiki.toml: module `a` depends on `b`, which is no module (14)",
+        ),
+    ] {
+        assert_eq!(rt;
+            line_of_definitions(rt.alloc(), definitions)?.as_str(),
+            text
+        );
+    }
+    Ok(())
 }
 
 #[test]
