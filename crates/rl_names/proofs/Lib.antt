@@ -10,3 +10,4 @@ pub mod QueryAgain
 pub mod QueryWritten
 pub mod SpacingLaw
 pub mod TitleLaw
+mod Worked
