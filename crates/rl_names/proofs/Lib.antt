@@ -10,4 +10,5 @@ pub mod QueryAgain
 pub mod QueryWritten
 pub mod SpacingLaw
 pub mod TitleLaw
+pub mod TitleAgain
 mod Worked

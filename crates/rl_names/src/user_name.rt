@@ -36,18 +36,19 @@ pub struct UserName {
 }
 
 impl Model for UserName {
-    ghost use Rattle.std.specs.Prelude.{List, ℕ, IsTrue, string_bytes};
-    ghost use Rattle.rl_names.specs.Title.{is_user_name};
+    ghost use Rattle.std.specs.Prelude.{◌≡◌, List, ℕ, Some, string_bytes};
+    ghost use Rattle.rl_names.specs.Title.{user_name_of};
 
     ghost Value = { List ℕ };
 
     ghost view = { λ n. string_bytes n.text };
 
-    ghost invariant = { λ n. IsTrue (is_user_name (string_bytes n.text)) };
+    // A user name is read again as itself.
+    ghost invariant = { λ n. user_name_of (string_bytes n.text) ≡ Some (string_bytes n.text) };
 }
 
 impl UserName {
-    ghost use Rattle.std.specs.Prelude.{IsTrue, string_bytes};
+    ghost use Rattle.std.specs.Prelude.{IsTrue, Some, string_bytes};
     ghost use Rattle.rl_names.specs.Title.{user_name_of, ReadsUserName};
 
     /// Reads a user name, as a title is read. No bytes at all are no name: they stand for nobody, and a caller who
@@ -69,13 +70,17 @@ impl UserName {
     pub fn as_bytes(&self) -> &[u8]
         ensures value { result.now ≡ self.now }
         ensures name { IsTrue (is_user_name self.now) }
+
+        // What was read is read again as itself.
+        ensures again { user_name_of self.now ≡ Some self.now }
     {
         self.text.as_bytes()
     }
 
     /// The name as a text that may be kept by itself.
     pub fn into_string(self) -> String
-        ensures { string_bytes result ≡ self }
+        ensures value { string_bytes result ≡ self }
+        ensures again { user_name_of self ≡ Some self }
     {
         let UserName { text } = self;
         text
