@@ -14,12 +14,12 @@ def need_program():
         sys.exit(f"bench: {PROGRAM} is not built: run ./loader.sh --version first")
 
 
-def run(words, folder, repeats=3):
-    """Runs the program. Gives the least time in seconds, the most memory in bytes, the output's length and the status."""
+def run(words, folder, repeats=3, program=PROGRAM):
+    """Runs the program, or another one. Gives the least time in seconds, the most memory in bytes, the output's length and the status."""
     best, memory, length, status = None, 0, 0, 0
     for _ in range(repeats):
         begun = time.perf_counter()
-        child = subprocess.Popen([PROGRAM, *words], cwd=folder, stdout=subprocess.PIPE, stderr=subprocess.DEVNULL)
+        child = subprocess.Popen([program, *words], cwd=folder, stdout=subprocess.PIPE, stderr=subprocess.DEVNULL)
         output = child.stdout.read()
         _, code, usage = os.wait4(child.pid, 0)
         spent = time.perf_counter() - begun

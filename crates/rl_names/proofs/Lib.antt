@@ -1,5 +1,6 @@
 pub mod Ascii
 pub mod CutLaw
+pub mod CountLaw
 pub mod NameLaw
 pub mod KeyLaw
 pub mod PackingLaw
@@ -9,3 +10,5 @@ pub mod QueryAgain
 pub mod QueryWritten
 pub mod SpacingLaw
 pub mod TitleLaw
+pub mod TitleAgain
+mod Worked

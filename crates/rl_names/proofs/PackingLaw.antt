@@ -20,14 +20,14 @@ none_passes p xs e k d h = false_from_ne_true (p (get_or xs k d)) (λ t. let u :
 
 -- ---- joined parts
 
-join_none : (p : ℕ → Bool) (c : ℕ) (parts : List (List ℕ)) → p c ≡ false → AllByRecursion (λ part. list_any p part ≡ false) parts → list_any p (join_with_byte c parts) ≡ false
+pub join_none : (p : ℕ → Bool) (c : ℕ) (parts : List (List ℕ)) → p c ≡ false → AllByRecursion (λ part. list_any p part ≡ false) parts → list_any p (join_with_byte c parts) ≡ false
 join_none p c [] h a = refl
 join_none p c (x ∷ []) h a = a.0
 join_none p c (x ∷ y ∷ xs) h a =
     list_any-append p x (c ∷ join_with_byte c (y ∷ xs)) ∙ or_from (list_any p x) (p c || list_any p (join_with_byte c (y ∷ xs))) a.0 (or_from (p c) (list_any p (join_with_byte c (y ∷ xs))) h (join_none p c (y ∷ xs) h a.1))
 
 -- parts without the separator, joined by it, are cut there again
-split_join : (p : ℕ → Bool) (c : ℕ) (x : List ℕ) (xs : List (List ℕ)) → p c ≡ true → AllByRecursion (λ part. list_any p part ≡ false) (x ∷ xs) → slice_split p (join_with_byte c (x ∷ xs)) ≡ x ∷ xs
+pub split_join : (p : ℕ → Bool) (c : ℕ) (x : List ℕ) (xs : List (List ℕ)) → p c ≡ true → AllByRecursion (λ part. list_any p part ≡ false) (x ∷ xs) → slice_split p (join_with_byte c (x ∷ xs)) ≡ x ∷ xs
 split_join p c x [] h a = slice_split_none p x (none_passes p x a.0)
 split_join p c x (y ∷ ys) h a = slice_split_at p x c (join_with_byte c (y ∷ ys)) (none_passes p x a.0) h ∙ ap (λ l. x ∷ l) (split_join p c y ys h a.1)
 

@@ -16,16 +16,25 @@ fn names(alloc: Global, texts: &[&str]) -> Result<Vec<Name>, Fail> {
     Ok(names)
 }
 
-/// Texts with a blank between.
+/// Texts with a blank between each two.
 fn spaced(alloc: Global, texts: &[Text]) -> Result<String, Fail> {
     let mut out = String::new(alloc);
-    for text in texts {
-        if !out.is_empty() {
+    for (i, text) in texts.iter().enumerate() {
+        if i > 0 {
             out.push(' ')?;
         }
         out.push_str(text.as_str())?;
     }
     Ok(out)
+}
+
+/// Names with a blank between each two.
+fn listed(alloc: Global, names: &[Name]) -> Result<String, Fail> {
+    let mut texts = Vec::new(alloc);
+    for name in names {
+        texts.push(Text::of(alloc, name.as_str())?)?;
+    }
+    spaced(alloc, &texts)
 }
 
 #[test]
@@ -137,12 +146,14 @@ fn packed_lists(rt: HostRuntime) -> Result<(), Fail> {
         ),
     ] {
         let list = names(alloc, list)?;
-        assert_eq!(rt; pack(alloc, &list)?.as_str(), packed);
-        let mut ordered = Vec::new(alloc);
-        for name in &packed_order(alloc, &list)? {
-            ordered.push(Text::of(alloc, name.as_str())?)?;
-        }
-        assert_eq!(rt; spaced(alloc, &ordered)?.as_str(), order);
+        let text = pack(alloc, &list)?;
+        assert_eq!(rt; text.as_str(), packed);
+        assert_eq!(rt;
+            listed(alloc, &packed_order(alloc, &list)?)?.as_str(),
+            order
+        );
+        let again = expand(alloc, text.as_str())?;
+        assert_eq!(rt; spaced(alloc, &again)?.as_str(), order);
     }
     Ok(())
 }
@@ -153,22 +164,19 @@ fn expansions(rt: HostRuntime) -> Result<(), Fail> {
     for (text, count, pieces) in [
         ("", 1, ""),
         ("a.,b", 2, "a. a.b"),
-        (",", 2, ""),
+        (",", 2, " "),
         ("a,b.c", 1, "a,b.c"),
-        ("|", 2, ""),
-        ("a||b", 3, "a b"),
+        ("|", 2, " "),
+        ("a||b", 3, "a  b"),
+        ("a|b|", 3, "a b "),
         ("a.b.c,d|e,f|g", 5, "a.b.c a.b.d e f g"),
+        ("a,b.c,d.e,f,g|,|.", 6, "a,b.c,d.e a,b.c,d.f a,b.c,d.g   ."),
         ("foo.bar,baz|jquery,mw", 4, "foo.bar foo.baz jquery mw"),
     ] {
         let expanded = expand(alloc, text)?;
         assert_eq!(rt; expanded.len(), count, "{text}");
-        let mut filled = Vec::new(alloc);
-        for piece in &expanded {
-            if !piece.is_empty() {
-                filled.push(piece.copy()?)?;
-            }
-        }
-        assert_eq!(rt; spaced(alloc, &filled)?.as_str(), pieces);
+        assert_eq!(rt; expanded_count(text.as_bytes()), count, "{text}");
+        assert_eq!(rt; spaced(alloc, &expanded)?.as_str(), pieces);
     }
     let twice = expand(alloc, "b|a|b|c|a")?;
     assert_eq!(rt; spaced(alloc, &distinct(alloc, &twice)?)?.as_str(), "b a c");
@@ -185,10 +193,15 @@ fn queries(rt: HostRuntime) -> Result<(), Fail> {
         ),
         ("lang=de&lang=", ""),
         ("lang=&lang=de", "lang=de"),
+        (
+            "version=00000&user=A&user=B&version=1efc7&skin=a&skin=b",
+            "skin=b&user=B&version=1efc7",
+        ),
         ("only=styles&only=x", ""),
         ("only=scripts&user=Ann", "only=scripts&user=Ann"),
         ("debug=2&version=1efc7", "debug=true&version=1efc7"),
         ("debug=1&debug=false&sync=1", ""),
+        ("debug=True&only=Scripts", ""),
         ("modules=a+b%20c&&=x&skin", "modules=a+b+c"),
         ("%6Dodules=a*-._~", "modules=a*-._%7E"),
         ("skin=%zz%4", "skin=%25zz%254"),
@@ -206,5 +219,19 @@ fn queries(rt: HostRuntime) -> Result<(), Fail> {
         assert_eq!(rt; query.encoded_len(), written.len() as u64);
     }
     assert_eq!(rt; encoded_len_of("a.b c,\u{e9}".as_bytes()), 14);
+    Ok(())
+}
+
+#[test]
+fn kept_texts(rt: HostRuntime) -> Result<(), Fail> {
+    let alloc = rt.alloc();
+    let mut text = Text::of(alloc, "a@")?.copy()?.into_string();
+    Version::read(b"1efc7")
+        .ok_or("a version")?
+        .push_to(&mut text)?;
+    let text = Text::from_string(text);
+    assert_eq!(rt; format!(in alloc; "<{text}>")?.as_str(), "<a@1efc7>");
+    assert_eq!(rt; Name::of(alloc, "a")?.as_str(), "a");
+    assert!(rt; Blob::of(alloc, b"a\xFF")?.as_bytes() == b"a\xFF".as_slice());
     Ok(())
 }

@@ -38,18 +38,19 @@ pub struct Title {
 }
 
 impl Model for Title {
-    ghost use Rattle.std.specs.Prelude.{List, ℕ, IsTrue, string_bytes};
-    ghost use Rattle.rl_names.specs.Title.{is_title};
+    ghost use Rattle.std.specs.Prelude.{◌≡◌, List, ℕ, Some, string_bytes};
+    ghost use Rattle.rl_names.specs.Title.{title_of};
 
     ghost Value = { List ℕ };
 
     ghost view = { λ t. string_bytes t.text };
 
-    ghost invariant = { λ t. IsTrue (is_title (string_bytes t.text)) };
+    // A title is read again as itself.
+    ghost invariant = { λ t. title_of (string_bytes t.text) ≡ Some (string_bytes t.text) };
 }
 
 impl Title {
-    ghost use Rattle.std.specs.Prelude.{IsTrue};
+    ghost use Rattle.std.specs.Prelude.{IsTrue, Some};
     ghost use Rattle.rl_names.specs.Title.{title_of, ReadsTitle};
 
     /// Reads a title. An underscore is a space, runs of spaces become one, and those at both ends are dropped.
@@ -70,6 +71,9 @@ impl Title {
     pub fn as_bytes(&self) -> &[u8]
         ensures value { result.now ≡ self.now }
         ensures title { IsTrue (is_title self.now) }
+
+        // What was read is read again as itself.
+        ensures again { title_of self.now ≡ Some self.now }
     {
         self.text.as_bytes()
     }

@@ -36,18 +36,19 @@ pub struct UserName {
 }
 
 impl Model for UserName {
-    ghost use Rattle.std.specs.Prelude.{List, ℕ, IsTrue, string_bytes};
-    ghost use Rattle.rl_names.specs.Title.{is_user_name};
+    ghost use Rattle.std.specs.Prelude.{◌≡◌, List, ℕ, Some, string_bytes};
+    ghost use Rattle.rl_names.specs.Title.{user_name_of};
 
     ghost Value = { List ℕ };
 
     ghost view = { λ n. string_bytes n.text };
 
-    ghost invariant = { λ n. IsTrue (is_user_name (string_bytes n.text)) };
+    // A user name is read again as itself.
+    ghost invariant = { λ n. user_name_of (string_bytes n.text) ≡ Some (string_bytes n.text) };
 }
 
 impl UserName {
-    ghost use Rattle.std.specs.Prelude.{IsTrue, string_bytes};
+    ghost use Rattle.std.specs.Prelude.{IsTrue, Some, string_bytes};
     ghost use Rattle.rl_names.specs.Title.{user_name_of, ReadsUserName};
 
     /// Reads a user name, as a title is read. No bytes at all are no name: they stand for nobody, and a caller who
@@ -69,13 +70,17 @@ impl UserName {
     pub fn as_bytes(&self) -> &[u8]
         ensures value { result.now ≡ self.now }
         ensures name { IsTrue (is_user_name self.now) }
+
+        // What was read is read again as itself.
+        ensures again { user_name_of self.now ≡ Some self.now }
     {
         self.text.as_bytes()
     }
 
     /// The name as a text that may be kept by itself.
     pub fn into_string(self) -> String
-        ensures { string_bytes result ≡ self }
+        ensures value { string_bytes result ≡ self }
+        ensures again { user_name_of self ≡ Some self }
     {
         let UserName { text } = self;
         text
@@ -111,11 +116,20 @@ mod tests {
         }
     }
 
+    /// The user name that bytes spell, or nothing.
+    fn user_name(rt: &HostRuntime, bytes: &[u8]) -> String {
+        match UserName::read(rt.alloc(), bytes) {
+            Ok(name) => name.into_string(),
+            Err(_) => String::new(rt.alloc()),
+        }
+    }
+
     #[test]
-    fn titles_and_user_names(rt: HostRuntime) {
-        let long = [b'a'; 256];
+    fn titles(rt: HostRuntime) {
         for (bytes, want) in [
             (&b"_Main__Page _"[..], "Main Page"),
+            (b"  a   b ", "a b"),
+            (b"a_ _b", "a b"),
             (b"MediaWiki:Common.js", "MediaWiki:Common.js"),
             (
                 "User:Zo\u{e9}/common.css".as_bytes(),
@@ -132,22 +146,39 @@ mod tests {
             (b"a}b", ""),
             (b"a|b", ""),
             (b"a\tb", ""),
+            (b"a\x1Fb", ""),
             (b"a\x7Fb", ""),
             (b"a\xFFb", ""),
         ] {
             assert_eq!(rt; title(&rt, bytes).as_str(), want);
         }
-        assert_eq!(rt; title(&rt, &long[..255]).len(), 255);
-        assert_eq!(rt; title(&rt, &long).len(), 0);
-        for (bytes, good) in [
-            (&b"Ann"[..], true),
-            (b" Ann_Lee ", true),
-            (b"", false),
-            (b"Ann/Lee", false),
-            (&long[..85], true),
-            (&long[..86], false),
+    }
+
+    #[test]
+    fn user_names(rt: HostRuntime) {
+        for (bytes, want) in [
+            (&b"Ann"[..], "Ann"),
+            (b" Ann_Lee ", "Ann Lee"),
+            (b"", ""),
+            (b"_", ""),
+            (b"Ann/Lee", ""),
+            (b"Ann|Lee", ""),
         ] {
-            assert_eq!(rt; UserName::read(rt.alloc(), bytes).is_ok(), good);
+            assert_eq!(rt; user_name(&rt, bytes).as_str(), want);
         }
+    }
+
+    #[test]
+    fn lengths(rt: HostRuntime) {
+        let mut long = [b'a'; 257];
+        assert_eq!(rt; title(&rt, &long[..255]).len(), 255);
+        assert_eq!(rt; title(&rt, &long[..256]).len(), 0);
+        assert_eq!(rt; user_name(&rt, &long[..85]).len(), 85);
+        assert_eq!(rt; user_name(&rt, &long[..86]).len(), 0);
+        // The limit is on what is left without the outer space.
+        long[0] = b'_';
+        assert_eq!(rt; title(&rt, &long[..256]).len(), 255);
+        assert_eq!(rt; title(&rt, &long[..257]).len(), 0);
+        assert_eq!(rt; user_name(&rt, &long[..86]).len(), 85);
     }
 }
