@@ -1,3 +1,4 @@
+pub mod Counting
 pub mod Drafts
 pub mod Search
 pub mod Settling

@@ -1,16 +1,18 @@
 -- What holds of a draft that breaks no rule.
 use Rattle.std.proofs.Common.{◌≡◌, ℕ, ◌≤◌, Bool, true, false, List, [], ◌∷◌, length, map, Option, Some, None, refl, ap, arith}
-use Rattle.std.specs.Prelude.{◌&&◌, ◌||◌, not, nat_le, bytes_eq, codes}
-use Rattle.std.specs.List.{list_all}
+use Rattle.std.specs.Prelude.{◌&&◌, ◌||◌, not, nat_le, if◌then◌else◌, bytes_eq, codes}
+use Rattle.std.specs.List.{list_all, filter_map, cons_option}
+use Rattle.std.specs.Str.{is_utf8}
 use Rattle.std.proofs.lemmas.Bool.Decides.{nat_tests}
 use Rattle.rl_names.specs.Name.{is_name}
+use Rattle.rl_names.specs.Title.{is_user_name, spaced, user_name_of}
 use Rattle.rl_defs.specs.declared.draft.Draft.{Draft}
 use Rattle.rl_defs.specs.declared.draft.ModuleDraft.{ModuleDraft}
 use Rattle.rl_defs.specs.declared.error.CatalogError.{CatalogError}
 use Rattle.rl_defs.specs.declared.error.CatalogError.TheVariants.{BadName, BadDependency, TooMany}
 use Rattle.rl_names.specs.declared.counted.Counted.TheVariants.{Modules}
 use Rattle.rl_defs.specs.declared.module_def.ModuleDef.{ModuleDef}
-use Rattle.rl_defs.specs.Breach.{or_else, first_of, unless, breach_of, bad_name, bad_module_name, bad_skin, too_many, too_many_dependencies, bad_dependency, bad_dependency_of, bad_dependency_among, is_defined, is_dependency, no_file, bad_source, too_large}
+use Rattle.rl_defs.specs.Breach.{or_else, first_of, unless, breach_of, bad_name, bad_module_name, bad_admin, bad_skin, too_many, too_many_dependencies, bad_dependency, bad_dependency_of, bad_dependency_among, is_defined, is_dependency, no_file, bad_source, too_large}
 use Rattle.rl_defs.specs.Draft.{has_names, module_of}
 use Rattle.rl_defs.specs.Words.{is_definable, is_built_in, is_gadget}
 
@@ -50,7 +52,7 @@ settled_names d none =
     let after_names = no_first (bad_name d) (or_else (too_many d) (or_else (bad_dependency d) (or_else (no_file d) (or_else (bad_source d) (too_large d))))) none in
     let after_counts = no_first (too_many d) (or_else (bad_dependency d) (or_else (no_file d) (or_else (bad_source d) (too_large d)))) after_names.1 in
     let after_dependencies = no_first (bad_dependency d) (or_else (no_file d) (or_else (bad_source d) (too_large d))) after_counts.1 in
-    let of_names = no_first (bad_module_name d.modules) (bad_skin d.skins) after_names.0 in
+    let of_names = no_first (bad_module_name d.modules) (or_else (bad_admin d.admins) (bad_skin d.skins)) after_names.0 in
     modules_have_names d d.modules of_names.0 after_dependencies.0
 
 pub settled_few : (d : Draft) → breach_of d ≡ None → length d.modules ≤ 3500
@@ -65,3 +67,18 @@ settled_few d none =
 pub same_names : (ms : List ModuleDraft) → map (λ (m : ModuleDef). m.name) (map module_of ms) ≡ map (λ (m : ModuleDraft). m.name) ms
 same_names [] = refl
 same_names (m ∷ ms) = ap (λ names. m.name ∷ names) (same_names ms)
+
+-- what is kept of an admin is a user's name
+spelt_is_user_name : (is_kept : Bool) (name : List ℕ) (names : List (List ℕ)) → (is_kept ≡ true → is_user_name name ≡ true) → list_all is_user_name names ≡ true → list_all is_user_name (cons_option (if is_kept then Some name else None) names) ≡ true
+spelt_is_user_name true name names is rest = passes_both (is_user_name name) (list_all is_user_name names) (is refl) rest
+spelt_is_user_name false name names is rest = rest
+
+passes_second : (a b : Bool) → a && b ≡ true → b ≡ true
+passes_second true b both = both
+passes_second false b both = cc
+
+pub are_user_names : (texts : List (List ℕ)) → list_all is_user_name (filter_map user_name_of texts) ≡ true
+are_user_names [] = refl
+are_user_names (text ∷ texts) =
+    spelt_is_user_name (is_utf8 text && is_user_name (spaced text)) (spaced text) (filter_map user_name_of texts)
+    (passes_second (is_utf8 text) (is_user_name (spaced text))) (are_user_names texts)

@@ -5,6 +5,7 @@
 use Rattle.std.specs.Prelude.{◌≡◌, ◌≢◌, ℕ, ◌-◌, ◌^◌, min, Bool, ◌&&◌, ◌||◌, nat_le, if◌then◌else◌, List, [], ◌∷◌, length, sum_by, find, Option, Some, None, is_some, unwrap_or, option_map, Result, Ok, Err, bytes_eq, codes}
 use Rattle.toml.specs.Data.{Data, table, Members}
 use Rattle.rl_names.specs.Name.{is_name}
+use Rattle.rl_names.specs.Title.{user_name_of}
 use Rattle.rl_names.specs.declared.counted.Counted.TheVariants.{Modules, ListedBytes, Dependencies}
 use Rattle.rl_defs.specs.declared.draft.Draft.{Draft}
 use Rattle.rl_defs.specs.declared.draft.ModuleDraft.{ModuleDraft}
@@ -69,11 +70,15 @@ unknown_field top = first_of unknown_at (pairs top)
 abbrev pub bad_module_name : List ModuleDraft → Option CatalogError
 bad_module_name modules = first_of (λ m. unless (is_definable m.name) (BadName m.name)) modules
 
+-- an admin spells the name of a user
+abbrev pub bad_admin : List (List ℕ) → Option CatalogError
+bad_admin admins = first_of (λ admin. unless (is_some (user_name_of admin)) (BadName admin)) admins
+
 abbrev pub bad_skin : List (List ℕ) → Option CatalogError
 bad_skin skins = first_of (λ skin. unless (is_skin skin) (BadName skin)) skins
 
 abbrev pub bad_name : Draft → Option CatalogError
-bad_name d = or_else (bad_module_name d.modules) (bad_skin d.skins)
+bad_name d = or_else (bad_module_name d.modules) (or_else (bad_admin d.admins) (bad_skin d.skins))
 
 -- ---- counts
 

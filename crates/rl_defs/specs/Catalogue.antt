@@ -1,5 +1,7 @@
 -- What a definitions file says: the value of a `Catalog`.
-use Rattle.std.specs.Prelude.{ℕ, ◌≤◌, List, map, length, find, Option, option_map, bytes_eq}
+use Rattle.std.specs.Prelude.{ℕ, ◌≤◌, List, map, length, find, Option, option_map, bytes_eq, IsTrue}
+use Rattle.std.specs.List.{list_all}
+use Rattle.rl_names.specs.Title.{is_user_name}
 use Rattle.rl_defs.specs.declared.file.File.{File}
 use Rattle.rl_defs.specs.declared.language.Language.{Language}
 use Rattle.rl_defs.specs.declared.module_def.ModuleDef.{ModuleDef}
@@ -25,6 +27,7 @@ module_named c name = find (λ m. bytes_eq m.name name) c.modules
 
 -- what holds of every catalogue
 pub record IsCatalogue (c : Catalogue) : Type 0 where
+  pub admins : IsTrue (list_all is_user_name c.admins)
   pub files : AreNames (map (λ f. f.name) c.files)
   pub modules : AreNames (map (λ m. m.name) c.modules)
   pub few_modules : length c.modules ≤ 3500

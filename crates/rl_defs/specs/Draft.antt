@@ -1,6 +1,6 @@
 -- What a definitions file says: as it is written, and as it is kept once every check has passed.
 use Rattle.std.specs.Prelude.{ℕ, ◌≤◌, Bool, ◌&&◌, List, [], ◌∷◌, map, unwrap_or, codes, false}
-use Rattle.std.specs.List.{list_all}
+use Rattle.std.specs.List.{list_all, filter_map}
 use Rattle.toml.specs.Data.{Data, Members, no_members, as_str, as_table}
 use Rattle.rl_defs.specs.declared.draft.Draft.{Draft}
 use Rattle.rl_defs.specs.declared.draft.ModuleDraft.{ModuleDraft}
@@ -8,6 +8,7 @@ use Rattle.rl_defs.specs.declared.file.File.{File}
 use Rattle.rl_defs.specs.declared.language.Language.{Language}
 use Rattle.rl_defs.specs.declared.module_def.ModuleDef.{ModuleDef}
 use Rattle.rl_names.specs.Name.{is_name}
+use Rattle.rl_names.specs.Title.{user_name_of}
 use Rattle.rl_defs.specs.Named.{AreNames}
 use Rattle.rl_defs.specs.Catalogue.{Catalogue}
 use Rattle.rl_defs.specs.Reading.{pairs, table_at, texts_at, text_at, number_at}
@@ -81,10 +82,10 @@ module_of m = record {
 abbrev pub english : Language
 english = record { code = codes "en"; fallback = []; rtl = false }
 
--- what is kept of a draft that breaks no rule
+-- what is kept of a draft that breaks no rule; each admin then spells a user's name, and the name is what is kept
 abbrev pub catalogue_of : Draft → Catalogue
 catalogue_of d = record {
-  admins = d.admins;
+  admins = filter_map user_name_of d.admins;
   skins = d.skins;
   languages = english ∷ [];
   limit = d.limit;

@@ -1,5 +1,6 @@
-ghost use Rattle.std.specs.Prelude.{◌≡◌, ◌≢◌, ◌<◌, ◌≤◌, length, map, slice_get, bytes_eq, option_and_then, option_copied, option_map, IsNone, IfErr, IfOk, Some, None, Ok, Err};
-ghost use Rattle.std.specs.List.{position};
+ghost use Rattle.std.specs.Prelude.{◌≡◌, ◌≢◌, ◌<◌, ◌≤◌, length, map, slice_get, bytes_eq, option_and_then, option_copied, option_map, IsNone, IsTrue, IfErr, IfOk, Some, None, Ok, Err};
+ghost use Rattle.std.specs.List.{list_all, position};
+ghost use Rattle.rl_names.specs.Title.{is_user_name};
 ghost use Rattle.rl_defs.specs.Ascending.{IsAscending};
 ghost use Rattle.rl_defs.specs.Breach.{breach_of, reading};
 ghost use Rattle.rl_defs.specs.Catalogue.{file_of, module_named, IsCatalogue};
@@ -14,6 +15,7 @@ use crate::language::Language;
 use crate::module_def::ModuleDef;
 use crate::named::{find_named, place_of_bytes};
 use crate::reading::document;
+use crate::words::user_names;
 use rl_names::{NoMemory, Seq, Text};
 use std::alloc::Global;
 use std::marker::Model;
@@ -65,7 +67,7 @@ impl Catalog {
         let root = document(alloc, bytes)?;
         check_fields(alloc, &root)?;
         let draft = Draft::of(alloc, root)?;
-        check_draft(&draft)?;
+        check_draft(alloc, &draft)?;
         Ok(Catalog::of(alloc, draft)?)
     }
 
@@ -89,7 +91,7 @@ impl Catalog {
             rtl: false,
         };
         Ok(Catalog {
-            admins,
+            admins: user_names(alloc, admins.as_slice())?,
             skins,
             languages: Seq::of(vec![in alloc; english]?),
             limit,
@@ -151,7 +153,8 @@ impl Catalog {
 
     /// Who may edit every page, as the rule of user names spells them.
     pub fn admins(&self) -> &[Text]
-        ensures { result.now ≡ self.now.admins }
+        ensures value { result.now ≡ self.now.admins }
+        ensures users { IsTrue (list_all is_user_name self.now.admins) }
     {
         self.admins.as_slice()
     }

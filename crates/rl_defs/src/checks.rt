@@ -8,8 +8,9 @@ ghost use Rattle.rl_defs.specs.Breach.{Checks};
 use crate::draft::{Draft, ModuleDraft};
 use crate::error::CatalogError;
 use crate::named::find_named;
-use crate::words::{is_built_in, is_definable, is_gadget, is_skin};
+use crate::words::{is_built_in, is_definable, is_gadget, is_skin, user_name};
 use rl_names::{Counted, Name, Text};
+use std::alloc::Global;
 
 /// The most modules that a file may define.
 const MOST_MODULES: usize = 3500;
@@ -21,11 +22,11 @@ const MOST_DEPENDENCIES: usize = 256;
 const MOST_BYTES: u64 = 67_108_864;
 
 /// The first breach of a draft whose fields are known.
-pub(crate) fn check_draft(draft: &Draft) -> Result<(), CatalogError>
+pub(crate) fn check_draft(alloc: Global, draft: &Draft) -> Result<(), CatalogError>
     requires { IsDraft draft.now }
     ensures { Checks result (spec.breach_of draft.now) }
 {
-    check_names(draft)?;
+    check_names(alloc, draft)?;
     check_counts(draft)?;
     check_dependencies(draft)?;
     check_files(draft)?;
@@ -33,10 +34,11 @@ pub(crate) fn check_draft(draft: &Draft) -> Result<(), CatalogError>
     check_size(draft)
 }
 
-fn check_names(draft: &Draft) -> Result<(), CatalogError>
+fn check_names(alloc: Global, draft: &Draft) -> Result<(), CatalogError>
     ensures { Checks result (spec.bad_name draft.now) }
 {
     check_module_names(draft.modules.as_slice())?;
+    check_admins(alloc, draft.admins.as_slice())?;
     check_skins(draft.skins.as_slice())
 }
 
@@ -47,6 +49,19 @@ fn check_module_names(modules: &[ModuleDraft]) -> Result<(), CatalogError>
         if !is_definable(module.name.as_str()) {
             return Err(CatalogError::BadName {
                 text: module.name.copy()?,
+            });
+        }
+    }
+    Ok(())
+}
+
+fn check_admins(alloc: Global, admins: &[Text]) -> Result<(), CatalogError>
+    ensures { Checks result (spec.bad_admin admins.now) }
+{
+    'admins: for admin in admins {
+        if user_name(alloc, admin.as_str())?.is_none() {
+            return Err(CatalogError::BadName {
+                text: admin.copy()?,
             });
         }
     }
