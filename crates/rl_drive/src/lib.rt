@@ -5,6 +5,8 @@ mod content;
 mod player;
 mod script;
 mod steps;
+#[cfg(test)]
+mod tests;
 mod text;
 
 pub use script::{DriveError, drive};

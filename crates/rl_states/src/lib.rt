@@ -4,6 +4,8 @@
 mod spoiled;
 mod standing;
 pub mod table;
+#[cfg(test)]
+mod tests;
 mod users;
 
 pub use rl_view_spec::{Outcome, Phase};

@@ -1,0 +1,299 @@
+ghost use Rattle.std.specs.Prelude.{IfOk, IsTrue};
+ghost use Rattle.std.specs.List.{list_all};
+ghost use Rattle.rl_view_spec.specs.Rows.{AreRegistrable, depends_by_name, has_own_group, has_version_unless_private, is_named};
+
+use crate::{DriveError, Driven, drive, play};
+use rl_names::{Dep, Group, Key, Name, NoMemory, Row, Seq, StateKind, Text, Version};
+use rl_registry::Registry;
+use rl_script_spec::Step;
+use std::alloc::Global;
+use std::test::Fail;
+
+/// What a script comes to: what is printed for it, and a line that says whether all is ready; or why it came to nothing.
+fn driven(alloc: Global, script: &[u8]) -> Result<Vec<u8>, NoMemory> {
+    match drive(alloc, script) {
+        Ok(Driven { mut text, ready }) => {
+            let end = if ready { "done\n" } else { "not ready\n" };
+            text.extend_from_slice(end.as_bytes())?;
+            Ok(text)
+        }
+        Err(DriveError::BadInput { line, why }) => {
+            Ok(format!(in alloc; "bad line {line} {why}\n")?.into_bytes())
+        }
+        Err(DriveError::TooLarge { what, count }) => {
+            Ok(format!(in alloc; "too many {what:?} {count}\n")?.into_bytes())
+        }
+        Err(DriveError::NoMemory) => Err(NoMemory),
+    }
+}
+
+const CHAIN_OF_THREE: &str = r#"["row","A","aaaaa",["B"]]
+["row","B","bbbbb",["C"]]
+["row","C","ccccc"]
+["using",["A"]]
+["impl","A@aaaaa","a()"]
+["impl","B@bbbbb","b()"]
+["impl","C@ccccc","c()"]
+"#;
+
+const CHAIN_OF_THREE_OUTPUT: &str = "\
+using ok
+used
+used
+used
+ran C@ccccc 3
+ran B@bbbbb 3
+ran A@aaaaa 3
+summary
+view 0
+ready A@aaaaa
+ready B@bbbbb
+ready C@ccccc
+executed A@aaaaa 3
+executed B@bbbbb 3
+executed C@ccccc 3
+done
+";
+
+/// Scripts, and what they come to.
+const SCRIPTS: [(&str, &str); 7] = [
+    (CHAIN_OF_THREE, CHAIN_OF_THREE_OUTPUT),
+    // a request that is refused touches nothing, and what it names is not ready
+    (
+        r#"["row","A","aaaaa"]
+["row","B","bbbbb",["A"]]
+["using",["A"]]
+["using",["B","zz"]]
+["impl","B@bbbbb","b()"]
+["impl","A@aaaaa","a()"]"#,
+        "using ok\nusing unknown zz\npassed\nused\nran A@aaaaa 3\n\
+summary\nview 0\nready A@aaaaa\nexecuted A@aaaaa 3\nnot ready\n",
+    ),
+    // an unknown name comes before one that leads back to itself
+    (
+        r#"["row","A","aaaaa",["A"]]
+["row","B","bbbbb",["A","zz"]]
+["using",["B"]]
+["using",["A"]]"#,
+        "using unknown zz\nusing cycle A\nsummary\nview 0\nnot ready\n",
+    ),
+    // two ways to one row; names and dependencies that stand twice; lengths are in bytes
+    (
+        r#"["row","D","ddddd",["B","C"]]
+["row","B","bbbbb",["E"]]
+["row","C","ccccc",["E","E"]]
+["row","E","eeeee"]
+["using",["D","D","E"]]
+["impl","D@ddddd","d()"]
+["impl","C@ccccc","c()"]
+["impl","B@bbbbb",""]
+["impl","E@eeeee","e(é)"]"#,
+        "using ok\nused\nused\nused\nused\nran E@eeeee 5\nran B@bbbbb 0\nran C@ccccc 3\nran D@ddddd 3\n\
+summary\nview 0\nready D@ddddd\nready B@bbbbb\nready C@ccccc\nready E@eeeee\n\
+executed D@ddddd 3\nexecuted B@bbbbb 0\nexecuted C@ccccc 3\nexecuted E@eeeee 5\ndone\n",
+    ),
+    // what ran for one request is there for the next; a version that is not the row's
+    (
+        r#"["row","@w/a","aaaaa",["B"]]
+["row","B","bbbbb"]
+["using",["B"]]
+["impl","B@00000","b()"]
+["using",["@w/a"]]
+["impl","@w/a@aaaaa","a()"]"#,
+        "using ok\nused\nran B@00000 3\nusing ok\nused\nran @w/a@aaaaa 3\n\
+summary\nview 0\nready @w/a@aaaaa\nready B@00000\nexecuted @w/a@aaaaa 3\nexecuted B@00000 3\ndone\n",
+    ),
+    (
+        "[\"row\",\"A\",\"aaaaa\"]\n[\"row\",\"A\",\"aaaaa\"]\n[\"using\"]",
+        "bad line 3 1\n",
+    ),
+    (
+        "[\"using\",[\"A\"]]\n[\"row\",\"A\",\"aaaaa\",[\"B\"]]",
+        "bad line 2 3\n",
+    ),
+];
+
+#[test]
+fn scripts(rt: HostRuntime) -> Result<(), Fail> {
+    let alloc = rt.alloc();
+    for (script, output) in SCRIPTS {
+        let printed = driven(alloc, script.as_bytes())?;
+        assert_eq!(rt; printed.as_slice(), output.as_bytes(), "of {script}");
+    }
+    Ok(())
+}
+
+/// A row that has two twins, with so many dependencies.
+fn twins(alloc: Global, dependencies: usize) -> Result<String, NoMemory> {
+    let mut row = String::from_str(alloc, "[\"row\",\"A\",\"aaaaa\",[\"B\"")?;
+    for _ in 1..dependencies {
+        row.push_str(",\"B\"")?;
+    }
+    Ok(format!(in alloc; "{row}]]\n{row}]]\n{row}]]")?)
+}
+
+/// Dependencies are counted before names are compared.
+#[test]
+fn refused_rows(rt: HostRuntime) -> Result<(), Fail> {
+    let alloc = rt.alloc();
+    for (dependencies, want) in [
+        (256, "bad line 0 22\n"),
+        (257, "too many Dependencies 257\n"),
+        (258, "too many Dependencies 258\n"),
+    ] {
+        let script = twins(alloc, dependencies)?;
+        let answer = driven(alloc, script.as_bytes())?;
+        assert_eq!(rt; answer.as_slice(), want.as_bytes(), "of {dependencies}");
+    }
+    Ok(())
+}
+
+fn dependencies(alloc: Global, names: &[&str]) -> Result<Vec<Dep>, NoMemory>
+    ensures { IfOk result (λ deps. IsTrue (list_all is_named deps.items)) }
+{
+    let mut deps = Vec::new(alloc);
+    for name in names {
+        deps.push(Dep::Named(Text::of(alloc, name)?))?;
+    }
+    Ok(deps)
+}
+
+/// A row of this wiki. The feature `f` skips the row `S`, and the row `P` is private.
+fn row(alloc: Global, name: &str, deps: Vec<Dep>) -> Result<Row, Fail>
+    requires { IsTrue (list_all is_named deps.items) }
+    ensures version { IfOk result (λ row. IsTrue (has_version_unless_private row)) }
+    ensures group { IfOk result (λ row. IsTrue (has_own_group row)) }
+    ensures dependencies { IfOk result (λ row. IsTrue (depends_by_name row)) }
+{
+    let version = Version::read(b"aaaaa").ok_or("a version")?;
+    let (version, group) = if name == "P" {
+        (None, Group::Private)
+    } else {
+        (Some(version), Group::Plain)
+    };
+    let skip = if name == "S" {
+        Some(Text::of(alloc, "f")?)
+    } else {
+        None
+    };
+    Ok(Row {
+        name: Name::read(alloc, name.as_bytes())?,
+        version,
+        deps: Seq::of(deps),
+        group,
+        source: Text::of(alloc, "")?,
+        skip,
+    })
+}
+
+/// The registry of these rows, under the feature `f`.
+fn registry(alloc: Global, table: &[(&str, &[&str])]) -> Result<Registry, Fail> {
+    let mut rows = Vec::new(alloc);
+    for (name, needs) in table {
+        let deps = dependencies(alloc, needs)?;
+        rows.push(row(alloc, name, deps)?)?;
+    }
+    let features = [Text::of(alloc, "f")?];
+    Ok(Registry::read(alloc, rows, &features)?)
+}
+
+fn texts(alloc: Global, texts: &[&str]) -> Result<Seq<Text>, NoMemory> {
+    let mut copies = Vec::new(alloc);
+    for text in texts {
+        copies.push(Text::of(alloc, text)?)?;
+    }
+    Ok(Seq::of(copies))
+}
+
+/// The step of a word: a request for these names, or a part under the first of them. A word of no step is the script of
+/// an implementation.
+fn step(alloc: Global, word: &str, names: &[&str]) -> Result<Step, Fail> {
+    let first = names.first().ok_or("a name")?;
+    match word {
+        "using" => Ok(Step::Using {
+            names: texts(alloc, names)?,
+        }),
+        "load" => Ok(Step::Load {
+            names: texts(alloc, names)?,
+        }),
+        "missing" => Ok(Step::State {
+            name: Text::of(alloc, first)?,
+            kind: StateKind::Missing,
+        }),
+        "error" => Ok(Step::State {
+            name: Text::of(alloc, first)?,
+            kind: StateKind::Error,
+        }),
+        _ => Ok(Step::Impl {
+            key: Key::split(alloc, first.as_bytes())?,
+            script: Text::of(alloc, word)?,
+        }),
+    }
+}
+
+fn steps(alloc: Global, table: &[(&str, &[&str])]) -> Result<Vec<Step>, Fail> {
+    let mut steps = Vec::new(alloc);
+    for (word, names) in table {
+        steps.push(step(alloc, word, names)?)?;
+    }
+    Ok(steps)
+}
+
+/// `A` needs `S`, which is skipped and so does not need `C`. `F` needs `P`, which is private.
+const ROWS: [(&str, &[&str]); 7] = [
+    ("A", &["S"]),
+    ("S", &["C"]),
+    ("C", &[]),
+    ("D", &["zz"]),
+    ("E", &["E"]),
+    ("F", &["P"]),
+    ("P", &[]),
+];
+
+/// Steps of the whole grammar.
+#[test]
+fn steps_by_hand(rt: HostRuntime) -> Result<(), Fail> {
+    let alloc = rt.alloc();
+    let table: [(&[(&str, &[&str])], bool, &str); 4] = [
+        (&[], true, "summary\nview 0\n"),
+        (
+            &[("using", &["A"]), ("a()", &["A@aaaaa"])],
+            true,
+            "using ok\nused\nran A@aaaaa 3\n\
+summary\nview 0\nready A@aaaaa\nready S@aaaaa\nexecuted A@aaaaa 3\n",
+        ),
+        (
+            &[("load", &["P"]), ("p()", &["P@ppppp"])],
+            true,
+            "load dropped 0\nused\nran P@ppppp 3\n\
+summary\nview 0\nready P@ppppp\nexecuted P@ppppp 3\n",
+        ),
+        (
+            &[
+                ("using", &["A", "D"]),
+                ("using", &["E"]),
+                ("load", &["D", "A", "x", "F", "x"]),
+                ("c()", &["C@ccccc"]),
+                ("s()", &["S@sssss"]),
+                ("a();", &["A@bbbbb"]),
+                ("error", &["P"]),
+                ("f()", &["F@fffff"]),
+                ("missing", &["F"]),
+                ("missing", &["x"]),
+                ("load", &["C"]),
+                ("missing", &["C"]),
+            ],
+            false,
+            "using unknown zz\nusing cycle E\nload dropped 3\npassed\npassed\n\
+used\nran A@bbbbb 4\nused\nused\npassed\npassed\nload dropped 0\nused\n\
+summary\nview 0\nready A@bbbbb\nready S@aaaaa\nmissing C@aaaaa\nerror F@fffff\nerror P\nexecuted A@bbbbb 4\n",
+        ),
+    ];
+    for (played, ready, output) in table {
+        let steps = steps(alloc, played)?;
+        let driven = play(alloc, registry(alloc, &ROWS)?, steps.as_slice())?;
+        assert_eq!(rt; driven.text.as_slice(), output.as_bytes());
+        assert_eq!(rt; driven.ready, ready);
+    }
+    Ok(())
+}

@@ -1,0 +1,5 @@
+use Rattle.std.specs.Prelude.{◌≡◌, None}
+use Rattle.rl_states.proofs.tests.run_all.Given as goal
+
+abbrev pub invariant-loop-turn : goal.invariant-loop-turn
+invariant-loop-turn l = l.table.executing ≡ None
