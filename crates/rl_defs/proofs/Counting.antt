@@ -1,4 +1,5 @@
--- What a refusal of definitions counts is something in them, and never the bytes of their file.
+-- What definitions are refused for: what is counted is something in them, never the bytes of their file, and it is
+-- never want of memory.
 use Rattle.std.proofs.Common.{◌≢◌, ℕ, ◌-◌, ◌^◌, min, Bool, true, false, List, [], ◌∷◌, length, Option, Some, None}
 use Rattle.std.specs.Prelude.{if◌then◌else◌, nat_le, bytes_eq, codes, is_some, Result, Ok, Err}
 use Rattle.toml.specs.Data.{Data, table, Members}
@@ -15,6 +16,7 @@ use Rattle.rl_defs.specs.Words.{is_definable, is_skin}
 
 abbrev pub IsOfDefinitions : CatalogError → Type 0
 IsOfDefinitions (breaches.TooMany what count) = what ≢ counted.FileBytes
+IsOfDefinitions breaches.NoMemory = ⊥
 IsOfDefinitions other = Unit {0}
 
 abbrev pub IsOfReading : Result Catalogue CatalogError → Type 0

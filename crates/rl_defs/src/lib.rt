@@ -11,6 +11,8 @@ pub mod language;
 pub mod module_def;
 mod named;
 mod reading;
+#[cfg(test)]
+mod tests;
 mod words;
 
 pub use catalog::Catalog;
