@@ -1,5 +1,6 @@
 pub mod Ascii
 pub mod CutLaw
+pub mod CountLaw
 pub mod NameLaw
 pub mod KeyLaw
 pub mod PackingLaw

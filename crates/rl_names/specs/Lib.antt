@@ -1,3 +1,4 @@
+pub mod Counting
 pub mod Cut
 pub mod Grouping
 pub mod Hash

@@ -19,7 +19,7 @@ pub use counted::Counted;
 pub use hash::{Hasher, combined, hash5};
 pub use kind::StateKind;
 pub use name::{Key, KeyError, Name, NameError, Version};
-pub use packing::{distinct, expand, pack, packed_order};
+pub use packing::{distinct, expand, expanded_count, pack, packed_order};
 pub use part::{Message, Source};
 pub use query::{Only, Query, encoded_len_of};
 pub use row::{Dep, Group, Row};

@@ -4,6 +4,7 @@ ghost use Rattle.std.specs.Ordering.{nat_cmp};
 ghost use Rattle.std.specs.Cmp.Lexicographic.{slice_cmp};
 ghost use Rattle.std.specs.BTreeMap.{get_by};
 ghost use Rattle.std.specs.List.{join_with_byte, slice_split};
+ghost use Rattle.rl_names.specs.Counting.{divides_pieces};
 ghost use Rattle.rl_names.specs.Grouping.{group_written, put_at};
 ghost use Rattle.rl_names.specs.Packing.{distinct as distinct_of, expand as expand_of, expand_group, front_of, suffix_of, fronts as fronts_of, group_of, pack as pack_of, packed_order as packed_order_of, AreNames};
 
@@ -196,4 +197,25 @@ pub fn expand(alloc: Global, text: &str) -> Result<Vec<Text>, NoMemory>
         push_expanded(alloc, &mut names, group)?;
     }
     Ok(names)
+}
+
+/// Whether a byte divides two pieces: a bar does, and a comma behind the last dot of its group.
+fn divides(byte: u8, before_dot: bool) -> bool
+    ensures { result ≡ divides_pieces byte before_dot }
+{
+    byte == b'|' || byte == b',' && !before_dot
+}
+
+/// How many pieces `expand` gives of a text with these bytes.
+pub fn expanded_count(packed: &[u8]) -> usize
+    ensures { result ≡ length (expand_of packed.now) }
+{
+    let mut count = 1;
+    let mut before_dot = false;
+    'places: for at in (0..packed.len()).rev() {
+        let byte = packed[at];
+        count += usize::from(divides(byte, before_dot));
+        before_dot = byte != b'|' && (byte == b'.' || before_dot);
+    }
+    count
 }

@@ -158,10 +158,12 @@ fn expansions(rt: HostRuntime) -> Result<(), Fail> {
         ("|", 2, ""),
         ("a||b", 3, "a b"),
         ("a.b.c,d|e,f|g", 5, "a.b.c a.b.d e f g"),
+        ("a,b.c,d.e,f,g|,|.", 6, "a,b.c,d.e a,b.c,d.f a,b.c,d.g ."),
         ("foo.bar,baz|jquery,mw", 4, "foo.bar foo.baz jquery mw"),
     ] {
         let expanded = expand(alloc, text)?;
         assert_eq!(rt; expanded.len(), count, "{text}");
+        assert_eq!(rt; expanded_count(text.as_bytes()), count, "{text}");
         let mut filled = Vec::new(alloc);
         for piece in &expanded {
             if !piece.is_empty() {
