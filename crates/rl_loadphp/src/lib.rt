@@ -5,6 +5,8 @@ pub mod answers;
 mod lines;
 pub mod requests;
 mod serving;
+#[cfg(test)]
+mod tests;
 mod texts;
 
 pub use answers::{Answer, AnswerError, Kind};

@@ -1,6 +1,5 @@
 ghost use Rattle.std.specs.Prelude.{◌≡◌, ◌≢◌, IfOk, IfErr, Ok, Err, map, string_bytes};
 ghost use Rattle.rl_build.specs.Payload.{version_of};
-ghost use Rattle.rl_names.specs.Packing.{expand as expand_of};
 ghost use Rattle.rl_loadphp.specs.Served.{payloads, query_context};
 ghost use Rattle.rl_loadphp.specs.Body.{body_of};
 ghost use Rattle.rl_loadphp.specs.Answer.{answer_of, answer_to as answer_to_query, age_with, kind_of};
@@ -13,7 +12,7 @@ use crate::serving::{Asked, sort_out};
 use crate::texts::{scripts, styles, versions};
 use rl_build::Context;
 use rl_defs::Catalog;
-use rl_names::{NoMemory, Only, Query, Text, Version, combined, distinct, expand};
+use rl_names::{NoMemory, Only, Query, Text, Version, combined, distinct, expand, expanded_count};
 use std::alloc::Global;
 
 /// The most bytes that a query may have.
@@ -123,18 +122,13 @@ fn kind(only: Only) -> Kind
     }
 }
 
-/// The answer to a query that asks for these names, however long.
-fn answer_to(
-    alloc: Global,
-    catalog: &Catalog,
-    query: &Query,
-    asked: &[Text],
-) -> Result<Answer, NoMemory>
-    requires { asked.now ≡ expand_of query.now.modules }
+/// The answer to a query, however many names it asks for and however long the answer is.
+fn answer_to(alloc: Global, catalog: &Catalog, query: &Query) -> Result<Answer, NoMemory>
     ensures { IfOk result (λ a. a ≡ answer_to_query catalog.now query.now) }
 {
     let ctx = read_context(alloc, catalog, query)?;
-    let names = distinct(alloc, asked)?;
+    let asked = expand(alloc, query.modules.as_str())?;
+    let names = distinct(alloc, &asked)?;
     let names = sort_out(alloc, catalog, &ctx, query.user.as_str(), names)?;
     let made = make(alloc, catalog, &ctx, query, &names)?;
     Ok(Answer {
@@ -146,7 +140,8 @@ fn answer_to(
 }
 
 /// The answer to the bytes of a query, for a viewer who is nobody. A query that is too long is not
-/// read, and of one with too many names none is looked up.
+/// read, and where there are too many names they are counted and not made: a long front before many
+/// commas stands for much more text than the query has.
 pub fn answer(alloc: Global, catalog: &Catalog, query: &[u8]) -> Result<Answer, AnswerError>
     ensures ok { IfOk result (λ a. answer_of catalog.now query.now ≡ Ok a) }
     ensures refused { IfErr result (λ e. e ≢ AnswerError.NoMemory → answer_of catalog.now query.now ≡ Err e) }
@@ -161,13 +156,13 @@ pub fn answer(alloc: Global, catalog: &Catalog, query: &[u8]) -> Result<Answer, 
         });
     }
     let query = Query::read(alloc, query)?;
-    let asked = expand(alloc, query.modules.as_str())?;
-    if asked.len() > MAX_NAMES {
+    let count = expanded_count(query.modules.as_bytes());
+    if count > MAX_NAMES {
         return Err(AnswerError::TooManyNames {
-            count: asked.len() as u64,
+            count: count as u64,
         });
     }
-    let answer = answer_to(alloc, catalog, &query, &asked)?;
+    let answer = answer_to(alloc, catalog, &query)?;
     let len = answer.body.as_bytes().len();
     if len > MAX_ANSWER {
         return Err(AnswerError::AnswerTooLong { len: len as u64 });

@@ -1,5 +1,5 @@
 use Rattle.std.proofs.Common.{◌≡◌, ◌∙◌, List, ℕ, Bool, map, nat_lt, length, string_bytes, ap}
-use Rattle.rl_names.specs.Packing.{distinct}
+use Rattle.rl_names.specs.Packing.{distinct, expand}
 use Rattle.rl_build.specs.Payload.{version_of}
 use Rattle.rl_loadphp.specs.Served.{names_of, query_context, served, missing, payloads}
 use Rattle.rl_loadphp.specs.Body.{body_of}
@@ -13,9 +13,10 @@ returns c =
     let q = c.args.query.now in
     let ctx = c.in_ok-ctx.ctx in
     let sorted = c.in_ok-names-2.names in
-    let names : c.in_ok-names.names.items ≡ names_of q = c.in_ok-names.ensures ∙ ap distinct c.requires in
-    let these : sorted.served.items ≡ served catalog q = served_names catalog q ctx _ _ _ c.in_ok-ctx.ensures c.as_str.ensures names c.in_ok-names-2.ensures.served in
-    let others : sorted.missing.items ≡ missing catalog q = missing_names catalog q ctx _ _ _ c.in_ok-ctx.ensures c.as_str.ensures names c.in_ok-names-2.ensures.missing in
+    let names : c.in_ok-names.names.items ≡ names_of q =
+    c.in_ok-names.ensures ∙ ap distinct (c.deref.ensures.value ∙ c.in_ok-asked.ensures ∙ ap expand c.as_str.ensures) in
+    let these : sorted.served.items ≡ served catalog q = served_names catalog q ctx _ _ _ c.in_ok-ctx.ensures c.as_str-2.ensures names c.in_ok-names-2.ensures.served in
+    let others : sorted.missing.items ≡ missing catalog q = missing_names catalog q ctx _ _ _ c.in_ok-ctx.ensures c.as_str-2.ensures names c.in_ok-names-2.ensures.missing in
     let body : c.from_string.result ≡ body_of catalog (query_context catalog q) q.only (served catalog q) (missing catalog q) =
     c.from_string.ensures ∙ c.in_ok-made.ensures.body
     ∙ ap (λ x. body_of catalog x q.only sorted.served.items sorted.missing.items) c.in_ok-ctx.ensures
@@ -25,4 +26,4 @@ returns c =
     c.in_ok-made.ensures.age
     ∙ ap (λ x. age_with q.version (map version_of (payloads catalog x sorted.served.items))) c.in_ok-ctx.ensures
     ∙ ap (λ s. age_with q.version (map version_of (payloads catalog (query_context catalog q) s))) these in
-    same_answer _ _ _ _ _ _ _ _ body c.kind.ensures age (told c.is_empty.result _ q.user c.is_empty.ensures c.as_str-2.ensures)
+    same_answer _ _ _ _ _ _ _ _ body c.kind.ensures age (told c.is_empty.result _ q.user c.is_empty.ensures c.as_str-3.ensures)
