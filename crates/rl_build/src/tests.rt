@@ -1,5 +1,9 @@
-use crate::Context;
+//! What no clause says: worked examples, with ample memory.
+
+use crate::{Context, group_and_source, names, payload, sheet, version};
 use rl_defs::Catalog;
+use rl_names::Text;
+use std::alloc::Global;
 use std::test::Fail;
 
 const WIKI: &str = r#"
@@ -8,22 +12,28 @@ skins = ["vector"]
 [files]
 "a.js" = "a()"
 "b.js" = "b()"
-"text.js" = "s(\"\\\\\\\"\t\u2028</script>\U0001D49E\")"
+"empty.js" = ""
+"quoted.js" = "s(\"\\\\\\\"\t\u2028</script>\U0001D49E\")"
+"control.js" = "\u0000\u0001\u001F\u007F\b\f\r\n"
 [modules.a]
 scripts = ["a.js"]
 [modules.b]
 scripts = ["b.js"]
 group = "late"
-dependencies = ["site", "a", "site"]
+dependencies = ["site", "a", "site", "a.both", "a"]
 skip = "promise"
 [modules."a.both"]
-scripts = ["a.js", "b.js", "a.js"]
+scripts = ["a.js", "b.js", "a.js", "a.js"]
 [modules.none]
+[modules.empty]
+scripts = ["empty.js", "empty.js"]
 [modules.p]
 scripts = ["a.js"]
 group = "private"
-[modules.text]
-scripts = ["text.js"]
+[modules.quoted]
+scripts = ["quoted.js"]
+[modules.control]
+scripts = ["control.js"]
 "#;
 
 /// What is asked for, and the language and the skin that it becomes.
@@ -39,11 +49,140 @@ const CONTEXTS: [(&[u8], &[u8], &str, &str); 5] = [
 fn contexts(rt: HostRuntime) -> Result<(), Fail> {
     let alloc = rt.alloc();
     let catalog = Catalog::read(alloc, WIKI.as_bytes())?;
-    for (lang, skin, wanted_lang, wanted_skin) in CONTEXTS {
+    for (lang, skin, wanted_lang, wanted_skin) in &CONTEXTS {
         let ctx = Context::read(alloc, &catalog, lang, skin, true)?;
-        assert_eq!(rt; ctx.lang.as_str(), wanted_lang);
-        assert_eq!(rt; ctx.skin.as_str(), wanted_skin);
+        assert_eq!(rt; ctx.lang.as_str(), *wanted_lang);
+        assert_eq!(rt; ctx.skin.as_str(), *wanted_skin);
         assert!(rt; ctx.debug);
     }
+    Ok(())
+}
+
+/// The context of a person who reads English.
+fn english(alloc: Global, catalog: &Catalog) -> Result<Context, Fail> {
+    Ok(Context::read(alloc, catalog, b"en", b"vector", false)?)
+}
+
+/// What a name brings in a line: the version, the styles, the number of messages and the script.
+fn brought(alloc: Global, catalog: &Catalog, name: &[u8]) -> Result<String, Fail> {
+    let ctx = english(alloc, catalog)?;
+    let Some(payload) = payload(alloc, catalog, &ctx, name)? else {
+        return Ok(String::from_str(alloc, "nothing")?);
+    };
+    let version = version(alloc, &payload)?;
+    let (version, styles) = (version.as_str(), payload.styles.as_str());
+    let (messages, script) = (payload.messages.as_slice().len(), payload.script.as_str());
+    Ok(format!(in alloc; "{version} [{styles}] {messages} {script}")?)
+}
+
+/// A name, and what it brings. The version is the hash of the JSON array of the script and two
+/// empty objects.
+const PAYLOADS: [(&[u8], &str); 13] = [
+    (b"a", "96okj [] 0 a()\n"),
+    (b"b", "wn61g [] 0 b()\n"),
+    (b"none", "186z7 [] 0 "),
+    (b"p", "96okj [] 0 a()\n"),
+    (b"a.both", "8qigq [] 0 a()\nb()\n"),
+    (b"empty", "423vz [] 0 \n"),
+    (
+        b"quoted",
+        "18c9r [] 0 s(\"\\\\\\\"\t\u{2028}</script>\u{1d49e}\")\n",
+    ),
+    (b"control", "1vsjo [] 0 \0\u{1}\u{1f}\u{7f}\u{8}\u{c}\r\n\n"),
+    (b"zz", "nothing"),
+    (b"", "nothing"),
+    (b"A", "nothing"),
+    (b"site", "nothing"),
+    (b"a\xff", "nothing"),
+];
+
+#[test]
+fn payloads(rt: HostRuntime) -> Result<(), Fail> {
+    let catalog = Catalog::read(rt.alloc(), WIKI.as_bytes())?;
+    for (name, wanted) in &PAYLOADS {
+        assert_eq!(rt; brought(rt.alloc(), &catalog, name)?.as_str(), *wanted);
+    }
+    Ok(())
+}
+
+/// Texts, each behind a blank.
+fn texts(alloc: Global, texts: &[Text]) -> Result<String, Fail> {
+    let mut out = String::new(alloc);
+    for text in texts {
+        out.push_str(" ")?;
+        out.push_str(text.as_str())?;
+    }
+    Ok(out)
+}
+
+/// A sheet in a line: the group and the source, the dependencies, and the skip.
+fn sheet_line(alloc: Global, catalog: &Catalog, name: &[u8]) -> Result<String, Fail> {
+    let ctx = english(alloc, catalog)?;
+    let Some(sheet) = sheet(alloc, catalog, &ctx, name)? else {
+        return Ok(String::from_str(alloc, "nothing")?);
+    };
+    let deps = texts(alloc, sheet.deps.as_slice())?;
+    let (group, source) = (sheet.group.as_str(), sheet.source.as_str());
+    let skip = sheet.skip.as_ref().map_or("-", |skip| skip.as_str());
+    Ok(format!(in alloc; "[{group}] {source};{deps};{skip}")?)
+}
+
+/// A name, and what its sheet says.
+const SHEETS: [(&[u8], &str); 7] = [
+    (b"a", "[] local;;-"),
+    (b"b", "[late] local; site a a.both;promise"),
+    (b"p", "[private] local;;-"),
+    (b"zz", "nothing"),
+    (b"", "nothing"),
+    (b"site", "nothing"),
+    (b"a\xff", "nothing"),
+];
+
+#[test]
+fn sheets(rt: HostRuntime) -> Result<(), Fail> {
+    let catalog = Catalog::read(rt.alloc(), WIKI.as_bytes())?;
+    for (name, wanted) in &SHEETS {
+        assert_eq!(rt; sheet_line(rt.alloc(), &catalog, name)?.as_str(), *wanted);
+    }
+    Ok(())
+}
+
+/// A name with its group and its source.
+const GROUPS: [(&[u8], &str, &str); 5] = [
+    (b"a", "", "local"),
+    (b"b", "late", "local"),
+    (b"p", "private", "local"),
+    (b"zz", "-", "-"),
+    (b"user", "-", "-"),
+];
+
+#[test]
+fn groups_and_sources(rt: HostRuntime) -> Result<(), Fail> {
+    let catalog = Catalog::read(rt.alloc(), WIKI.as_bytes())?;
+    let ctx = english(rt.alloc(), &catalog)?;
+    for (name, group, source) in &GROUPS {
+        let found = group_and_source(&catalog, &ctx, name).unwrap_or(("-", "-"));
+        assert!(rt; found.0 == *group);
+        assert!(rt; found.1 == *source);
+    }
+    Ok(())
+}
+
+/// The names with a sheet, each behind a blank.
+fn all_names(alloc: Global, catalog: &Catalog) -> Result<String, Fail> {
+    let ctx = english(alloc, catalog)?;
+    let mut out = String::new(alloc);
+    for name in &names(alloc, catalog, &ctx)? {
+        out.push_str(" ")?;
+        out.push_str(name.as_str())?;
+    }
+    Ok(out)
+}
+
+#[test]
+fn names_in_order(rt: HostRuntime) -> Result<(), Fail> {
+    let catalog = Catalog::read(rt.alloc(), WIKI.as_bytes())?;
+    let wanted = " a a.both b control empty none p quoted";
+    assert_eq!(rt; all_names(rt.alloc(), &catalog)?.as_str(), wanted);
     Ok(())
 }
