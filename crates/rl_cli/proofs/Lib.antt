@@ -1,5 +1,4 @@
 pub mod AnswersLemmas
 pub mod FetchedLemmas
-pub mod LoadLemmas
 pub mod VerdictLemmas
 pub mod WrittenLemmas

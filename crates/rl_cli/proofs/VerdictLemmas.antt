@@ -1,5 +1,5 @@
--- What a verdict counts is never the size of a file.
-use Rattle.std.proofs.Common.{◌≡◌, ◌≢◌, ℕ, Bool, true, false, length, Option, Some, None}
+-- What a verdict counts is never the size of a file, and one on definitions and a query is never left open.
+use Rattle.std.proofs.Common.{◌≡◌, ◌≢◌, ℕ, ◌<◌, Bool, true, false, length, Option, Some, None, lit<, arith}
 use Rattle.std.specs.Prelude.{if◌then◌else◌, nat_lt, Result, Ok, Err}
 use Rattle.std.specs.Option.{option_map_or}
 use Rattle.std.specs.Str.{is_utf8}
@@ -16,12 +16,14 @@ use Rattle.rl_defs.specs.Catalogue.{Catalogue}
 use Rattle.rl_defs.specs.declared.error.CatalogError.{CatalogError}
 use Rattle.rl_defs.specs.declared.error.CatalogError.TheVariants as breaches
 use Rattle.rl_defs.proofs.Counting.{IsOfDefinitions, IsOfReading, reading_is_of_definitions}
-use Rattle.rl_loadphp.specs.Answer.{answer_of}
+use Rattle.rl_names.specs.Packing.{expand}
+use Rattle.rl_names.specs.Query.{query_of}
+use Rattle.rl_loadphp.specs.Answer.{answer_of, answer_to, unless_longer, unless_more}
 use Rattle.rl_loadphp.specs.declared.answers.Answer.{Answer}
 use Rattle.rl_loadphp.specs.declared.answers.AnswerError.{AnswerError}
 use Rattle.rl_loadphp.specs.declared.answers.AnswerError.TheVariants as refusals
 use Rattle.rl_cli.specs.Answers.{verdict_on}
-use Rattle.rl_cli.specs.Loads.{answer_verdict, reading_verdict, load_verdict, breach_verdict as load_breach_verdict}
+use Rattle.rl_cli.specs.Loads.{answer_verdict, reading_verdict, load_verdict, no_verdict, breach_verdict as load_breach_verdict}
 use Rattle.rl_cli.specs.Words.{Command, Drive, Load}
 
 abbrev IsOfContent : Verdict → Type 0
@@ -65,7 +67,7 @@ of_breach_verdict (breaches.BadDependency owner name) h = tt
 of_breach_verdict (breaches.NoFile owner file) h = tt
 of_breach_verdict (breaches.BadChain language) h = tt
 of_breach_verdict (breaches.BadSource owner) h = tt
-of_breach_verdict breaches.NoMemory h = tt
+of_breach_verdict breaches.NoMemory h = absurd h
 
 of_answer_verdict : (r : Result Answer AnswerError) → IsOfContent (answer_verdict r)
 of_answer_verdict (Ok answer) = tt
@@ -77,6 +79,44 @@ of_answer_verdict (Err refusals.NoMemory) = tt
 is_of_answer : (query : Text) (r : Result Catalogue CatalogError) → IsOfReading r → IsOfContent (reading_verdict query r)
 is_of_answer query (Ok catalogue) h = of_answer_verdict (answer_of catalogue query)
 is_of_answer query (Err e) h = of_breach_verdict e h
+
+-- ---- no verdict is left open
+
+by_number : (line why : ℕ) → 0 < why → BadLine line why ≢ no_verdict
+by_number line why h = λ e. let zero : why ≡ 0 = cc in omega arith
+
+known_breach : (e : CatalogError) → IsOfDefinitions e → load_breach_verdict e ≢ no_verdict
+known_breach (breaches.TooMany what count) h = λ e. cc
+known_breach breaches.NotToml h = by_number 0 11 (lit< tt)
+known_breach (breaches.UnknownField owner field) h = by_number 0 12 (lit< tt)
+known_breach (breaches.BadName text) h = by_number 0 13 (lit< tt)
+known_breach (breaches.BadDependency owner name) h = by_number 0 14 (lit< tt)
+known_breach (breaches.NoFile owner file) h = by_number 0 15 (lit< tt)
+known_breach (breaches.BadChain language) h = by_number 0 16 (lit< tt)
+known_breach (breaches.BadSource owner) h = by_number 0 18 (lit< tt)
+known_breach breaches.NoMemory h = absurd h
+
+abbrev IsKnown : Result Answer AnswerError → Type 0
+IsKnown r = answer_verdict r ≢ no_verdict
+
+-- a refusal where a test holds, and else the rest
+known_unless : (b : Bool) (e : AnswerError) (r : Result Answer AnswerError) → IsKnown (Err e) → IsKnown r → IsKnown (if b then Err e else r)
+known_unless true e r h k = h
+known_unless false e r h k = k
+
+known_answer : (c : Catalogue) (query : Text) → IsKnown (answer_of c query)
+known_answer c query =
+    let q = query_of query in
+    known_unless (nat_lt 16384 (length query)) (refusals.QueryTooLong (length query)) (unless_more c q) (λ e. cc)
+    (known_unless (nat_lt 1000 (length (expand q.modules))) (refusals.TooManyNames (length (expand q.modules))) (unless_longer (answer_to c q)) (λ e. cc)
+    (known_unless (nat_lt 67108864 (length (answer_to c q).body)) (refusals.AnswerTooLong (length (answer_to c q).body)) (Ok (answer_to c q)) (λ e. cc) (λ e. cc)))
+
+known_reading : (query : Text) (r : Result Catalogue CatalogError) → IsOfReading r → reading_verdict query r ≢ no_verdict
+known_reading query (Ok catalogue) h = known_answer catalogue query
+known_reading query (Err e) h = known_breach e h
+
+pub always_known : (query definitions : Text) → load_verdict query definitions ≢ no_verdict
+always_known query definitions = known_reading query (reading definitions) (reading_is_of_definitions definitions)
 
 -- ---- both
 

@@ -17,7 +17,8 @@ use Rattle.rl_cli.specs.Words.{Load, command_of}
 use Rattle.rl_cli.specs.declared.load.LoadError.{LoadError}
 use Rattle.rl_cli.specs.declared.load.LoadError.TheVariants as errors
 
--- stands where a definition would answer want of memory, which none does
+-- Stands where definitions or a query would be refused for want of memory. What they mean has no such refusal, so that
+-- no verdict is this one, as `load` says.
 abbrev pub no_verdict : Verdict
 no_verdict = BadLine 0 0
 

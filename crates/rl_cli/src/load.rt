@@ -1,6 +1,6 @@
 ghost use Rattle.std.specs.Prelude.{◌≡◌, ◌≢◌, Err};
 ghost use Rattle.rl_loadphp.specs.Answer.{answer_of};
-ghost use Rattle.rl_cli.specs.Loads.{Loads, breach_verdict, answer_verdict, load_verdict};
+ghost use Rattle.rl_cli.specs.Loads.{Loads, breach_verdict, answer_verdict, load_verdict, no_verdict};
 
 use rl_defs::{Catalog, CatalogError};
 use rl_loadphp::{AnswerError, answer};
@@ -57,8 +57,12 @@ fn unanswered(error: AnswerError) -> LoadError
 }
 
 /// The body that answers a query from definitions.
+#[tactic(auto, using(crate::proofs::VerdictLemmas::always_known))]
 pub fn load(alloc: Global, definitions: &[u8], query: &str) -> Result<Text, LoadError>
-    ensures { Loads result (load_verdict query.now definitions.now) }
+    ensures verdict { Loads result (load_verdict query.now definitions.now) }
+
+    // Every definitions file and query has a verdict.
+    ensures known { load_verdict query.now definitions.now ≢ no_verdict }
 {
     let catalog = match Catalog::read(alloc, definitions) {
         Ok(catalog) => catalog,

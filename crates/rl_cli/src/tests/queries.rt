@@ -129,3 +129,36 @@ fn refused_definitions(rt: HostRuntime) -> Result<(), Fail> {
     }
     Ok(())
 }
+
+/// Definitions of 64 modules, named by their numbers from 10 on, which list one file of 1 MiB: as many
+/// bytes as modules may list together.
+fn large_wiki(alloc: Global) -> Result<String, Fail> {
+    let text = "x".repeat(alloc, 1_048_576)?;
+    let mut definitions = format!(in alloc; "[files]\nx = '{text}'\n")?;
+    for number in 10..74 {
+        let module = format!(in alloc; "[modules.{number}]\nscripts = ['x']\n")?;
+        definitions.push_str(module.as_str())?;
+    }
+    Ok(definitions)
+}
+
+/// The line of each of these modules has 44 bytes beside those of the file.
+#[test]
+fn large_answer(rt: HostRuntime) -> Result<(), Fail> {
+    let alloc = rt.alloc();
+    let mut query = String::from_str(alloc, "modules=10")?;
+    for number in 11..74 {
+        query.push_str(format!(in alloc; ",{number}")?.as_str())?;
+    }
+    let definitions = large_wiki(alloc)?;
+    let (ended, written) = loaded(alloc, definitions.as_str(), query.as_str())?;
+    assert_eq!(rt;
+        ended,
+        Status::TooLarge {
+            what: Counted::AnswerBytes,
+            count: 64 * (1_048_576 + 44)
+        }
+    );
+    assert!(rt; written.is_empty());
+    Ok(())
+}
