@@ -1,15 +1,15 @@
 -- A version changes nothing that requests and progress look at.
-use Rattle.std.proofs.Common.{◌≡◌, ℕ, zero, suc, ◌+◌, List, [], ◌∷◌, ◌++◌, Bool, true, false, cond, ◌&&◌, ◌||◌, not, length, map, Option, Some, None, refl, ap, sym, ◌∙◌}
+use Rattle.std.proofs.Common.{◌≡◌, ℕ, zero, suc, ◌+◌, List, [], ◌∷◌, Bool, true, false, cond, ◌&&◌, ◌||◌, not, length, map, Option, Some, None, refl, ap, sym, ◌∙◌}
 use Rattle.std.specs.Prelude.{bytes_eq, filter, find, flat_map, is_some, slice_get, option_map}
-use Rattle.std.specs.List.{list_any, filter_map, enumerate_from}
+use Rattle.std.specs.List.{list_any, enumerate_from}
 use Rattle.std.specs.Option.{option_map_or}
 use Rattle.std.proofs.lemmas.List.{length-map}
 use Rattle.std.proofs.lemmas.Option.{slice_get-map}
 use Rattle.rl_names.specs.declared.row.Row.{Row}
-use Rattle.rl_view_spec.specs.Closure.{Text, Registered, dep_name, has_feature, row_of, has_row, deps_of, deps_of_row, reaches, in_closure, in_closures, leads_back, mentioned, least, or_cycle, refusal_of}
+use Rattle.rl_view_spec.specs.Closure.{Text, Registered, dep_name, has_feature, row_of, has_row, deps_of, deps_of_row, reaches, in_closure, in_closures, leads_back, mentioned, refusal_of}
 use Rattle.rl_view_spec.specs.Numbers.{number_of, needed, needs_of}
 use Rattle.rl_view_spec.specs.Progress.{row_numbers, name_at, is_skipped_at}
-use Rattle.rl_registry.specs.Rows.{with_version, AreAlike, VersionsChangeNothing}
+use Rattle.rl_registry.specs.Rows.{with_version, VersionsChangeNothing}
 use Rattle.rl_registry.proofs.Versions.{bare_row, bare, bare_versioned, feature_bare, dep_bare, number_bare, needed_bare, filter_map_same}
 
 -- what is the same without versions is the same with any

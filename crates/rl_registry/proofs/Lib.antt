@@ -1,11 +1,15 @@
 pub mod Alike
 pub mod Blamed
+pub mod Counts
 pub mod Kept
+pub mod Leading
 pub mod Leasts
 pub mod Loops
 pub mod Marked
 pub mod Named
 pub mod Ordered
+pub mod Ranking
+pub mod Releasing
 pub mod RowsRead
 pub mod Searching
 pub mod Unknowns

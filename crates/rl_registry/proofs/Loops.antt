@@ -1,10 +1,13 @@
 -- The rows that lead back to themselves, and ranks by which there are none.
-use Rattle.std.proofs.Common.{◌≡◌, ℕ, suc, ◌<◌, List, Bool, true, false, ◌&&◌, length, Option, Some, None, refl, ap, sym, subst, ◌∙◌, arith}
+use Rattle.std.proofs.Common.{◌≡◌, ℕ, suc, ◌<◌, List, Bool, true, false, ◌&&◌, length, nat_lt, Option, Some, None, refl, ap, sym, subst, ◌∙◌, arith}
 use Rattle.std.specs.Prelude.{Contains, slice_index}
+use Rattle.std.specs.List.{list_all}
 use Rattle.std.specs.Option.{option_map_or}
 use Rattle.std.specs.Ordering.{nat_cmp, is_lt}
 use Rattle.std.specs.Cmp.Lexicographic.{slice_cmp}
-use Rattle.std.proofs.lemmas.Bool.{and_from, and_parts, both_ways}
+use Rattle.std.proofs.lemmas.Bool.{and_from, and_parts, both_ways, ltb-true}
+use Rattle.std.proofs.lemmas.Option.{get_or_from_slice_get, slice_get_within}
+use Rattle.rl_view_spec.proofs.Tools.{all_each}
 use Rattle.rl_view_spec.specs.Closure.{Text, Registered, row_of, deps_of, InClosure, in_closures, leads_back}
 use Rattle.rl_view_spec.specs.Numbers.{number_of, closure_numbers}
 use Rattle.rl_view_spec.specs.Progress.{name_at}
@@ -14,9 +17,11 @@ use Rattle.rl_view_spec.proofs.Places.{place_of}
 use Rattle.rl_view_spec.proofs.Reach.{ranked_is_acyclic}
 use Rattle.rl_view_spec.proofs.Resolve.{in_one, of_one, back_from_cyclic, cyclic_from_back}
 use Rattle.rl_registry.specs.Graph.{Edges, HasEdge, marked}
-use Rattle.rl_registry.specs.Kept.{HasEdges, AreClosures}
-use Rattle.rl_registry.specs.Search.{IsLeastRow, FallFrom}
+use Rattle.rl_registry.specs.Kept.{edge_lists, HasEdges, AreClosures}
+use Rattle.rl_registry.specs.Ranks.{next_in, falls_at}
+use Rattle.rl_registry.specs.Search.{IsLeastRow}
 use Rattle.rl_registry.proofs.Kept as kept
+use Rattle.rl_registry.proofs.Leading.{listed}
 use Rattle.rl_registry.proofs.Unknowns.{has_closure}
 
 abbrev pub loops : Registered → List Bool → ℕ → Bool
@@ -52,10 +57,22 @@ loop_none r names marks m l other u =
 
 -- ---- ranks that fall
 
+-- the ranks fall at each of these numbers
+abbrev pub AllFall : Edges → List ℕ → List ℕ → Type 0
+AllFall edges ranks numbers = list_all (falls_at (edge_lists edges) ranks) numbers ≡ true
+
+falls_along : (edges : Edges) (ranks numbers : List ℕ) → AllFall edges ranks numbers → (a b : ℕ) → Contains numbers a → HasEdge edges a b → slice_index ranks b < slice_index ranks a
+falls_along edges ranks numbers all a b c e =
+    let low : a < length edges = slice_get_within edges a e.0 e.1 in
+    let next : e.0.items ≡ next_in (edge_lists edges) a = listed edges a e.0 e.0.items low (sym (get_or_from_slice_get edges a e.0 e.0 e.1)) refl in
+    let here : falls_at (edge_lists edges) ranks a ≡ true = all_each (falls_at (edge_lists edges) ranks) numbers a all c in
+    ltb-true (slice_index ranks b) (slice_index ranks a)
+    (all_each (λ to. nat_lt (slice_index ranks to) (slice_index ranks a)) (next_in (edge_lists edges) a) b here (subst (λ (xs : List ℕ). Contains xs b) next e.2))
+
 abbrev rank_of : Registered → List ℕ → Text → ℕ
 rank_of r ranks name = option_map_or (λ k. suc (slice_index ranks k)) (number_of r name) 0
 
-falls_named : (r : Registered) (edges : Edges) (ranks : List ℕ) (names : List Text) (name : Text) → HasEdges r edges → FallFrom edges ranks (closure_numbers r names) → Contains names name
+falls_named : (r : Registered) (edges : Edges) (ranks : List ℕ) (names : List Text) (name : Text) → HasEdges r edges → AllFall edges ranks (closure_numbers r names) → Contains names name
     → (one next : Text) → InClosure r name one → Contains (deps_of r one) next → rank_of r ranks next < rank_of r ranks one
 falls_named r edges ranks names name has falls c one next m dep =
     let p = place_of r one (row_from_dep r (row_of r one) next dep) in
@@ -71,9 +88,9 @@ falls_named r edges ranks names name has falls c one next m dep =
         let n = kept.number_named r next k e in
         let edge : HasEdge edges at k = ((kept.kept_indexed r edges has).each at k low n.0).1
         (subst (λ (x : Text). Contains (deps_of r (name_at r at)) x) (sym n.1) (subst (λ (x : Text). Contains (deps_of r x) next) (sym named) dep)) in
-        omega (arith, falls at k inside edge)
+        omega (arith, falls_along edges ranks (closure_numbers r names) falls at k inside edge)
 
 -- nothing leads back to itself
-pub no_loops : (r : Registered) (edges : Edges) (ranks : List ℕ) (names : List Text) → HasEdges r edges → FallFrom edges ranks (closure_numbers r names) → (m : Text) → IsLooped r names m → ⊥
+pub no_loops : (r : Registered) (edges : Edges) (ranks : List ℕ) (names : List Text) → HasEdges r edges → AllFall edges ranks (closure_numbers r names) → (m : Text) → IsLooped r names m → ⊥
 no_loops r edges ranks names kept falls m u =
     ranked_is_acyclic r u.0.0 (rank_of r ranks) (falls_named r edges ranks names u.0.0 kept falls u.0.1) m u.0.2 u.1

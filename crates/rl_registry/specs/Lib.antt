@@ -3,4 +3,5 @@ pub mod Answered
 pub mod Graph
 pub mod Index
 pub mod Kept
+pub mod Ranks
 pub mod Search

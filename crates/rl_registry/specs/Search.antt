@@ -1,5 +1,5 @@
 -- What is looked through for the least name to blame.
-use Rattle.std.specs.Prelude.{◌≡◌, ℕ, ◌<◌, List, [], ◌∷◌, ◌++◌, Bool, true, false, filter, flat_map, length, is_none, option_and_then, slice_get, slice_index, Contains, Option, Some, None}
+use Rattle.std.specs.Prelude.{◌≡◌, ℕ, ◌<◌, List, [], ◌∷◌, ◌++◌, Bool, true, false, filter, flat_map, length, is_none, option_and_then, slice_get, Option, Some, None}
 use Rattle.std.specs.Option.{option_map_or}
 use Rattle.std.specs.Ordering.{nat_cmp, is_lt}
 use Rattle.std.specs.Cmp.Lexicographic.{slice_cmp}
@@ -7,7 +7,6 @@ use Rattle.rl_names.specs.declared.row.Dep.{Dep}
 use Rattle.rl_view_spec.specs.Closure.{Text, Registered, deps_of_row, dep_name, lesser}
 use Rattle.rl_view_spec.specs.Numbers.{number_of, closure_numbers}
 use Rattle.rl_view_spec.specs.Progress.{name_at}
-use Rattle.rl_registry.specs.Graph.{Edges, HasEdge}
 
 -- those of the texts that no row has as its name
 abbrev pub unknown : Registered → List Text → List Text
@@ -38,7 +37,3 @@ abbrev pub IsLeastRow : Registered → (ℕ → Bool) → Option ℕ → Type 0
 IsLeastRow r test None = (k : ℕ) → k < length r.rows → test k ≡ false
 IsLeastRow r test (Some row) =
     (row < length r.rows) × (test row ≡ true) × ((k : ℕ) → k < length r.rows → test k ≡ true → is_lt (slice_cmp nat_cmp (name_at r k) (name_at r row)) ≡ false)
-
--- along each edge from these numbers the rank falls
-abbrev pub FallFrom : Edges → List ℕ → List ℕ → Type 0
-FallFrom edges ranks rows = (a b : ℕ) → Contains rows a → HasEdge edges a b → slice_index ranks b < slice_index ranks a

@@ -21,7 +21,7 @@ use Rattle.rl_states.specs.Marks.{is_marked, listed, IsClosed, IsWithin, Spreads
 use Rattle.rl_states.specs.Standings.{by_place, cell_of, for_rows, fresh, touch_at}
 use Rattle.rl_states.specs.Users.{AreUsers}
 use Rattle.rl_states.specs.Kept.{is_broken_at, IsStanding, Spoils, AreSpoiled, IsTable}
-use Rattle.rl_states.proofs.Needs.{counted_in, some_counted}
+use Rattle.rl_registry.proofs.Counts.{counted_in, some_counted}
 use Rattle.rl_states.proofs.Tables.{has_needs, touched_is}
 use Rattle.rl_states.proofs.StandingsLemmas.{place, same_places, length_places, set_place, set_by_place, by_place_same, over_numbers, over_at, length_rows, count_agree}
 

@@ -17,7 +17,7 @@ use Rattle.rl_states.specs.Standings.{by_place, cell_of, release_at}
 use Rattle.rl_states.specs.Users.{AreUsers}
 use Rattle.rl_states.specs.Kept.{waits_of, needs_done, is_broken_at, IsStanding, AreSpoiled, IsRunning, IsTable}
 use Rattle.rl_states.proofs.Changes.{from_place, spoiled_alike, counted_alike, cells_alike, user_needs}
-use Rattle.rl_states.proofs.Needs.{count_fewer}
+use Rattle.rl_registry.proofs.Counts.{count_fewer}
 use Rattle.rl_states.proofs.StandingsLemmas.{place, same_places, length_places, set_by_place, by_place_same, count_agree}
 use Rattle.rl_states.proofs.Tables.{next_runs, has_needs, well_ran}
 

@@ -17,7 +17,7 @@ use Rattle.rl_view_spec.specs.Progress.{is_skipped_at}
 use Rattle.rl_view_spec.proofs.Tools.{contains_head, contains_tail, place_there}
 use Rattle.rl_states.specs.declared.standing.Standing.{Standing}
 use Rattle.rl_states.specs.Standings.{begun, by_place, for_rows, fresh, is_done_in, touch_at, release_at}
-use Rattle.rl_states.proofs.UsersLemmas.{count_push}
+use Rattle.rl_registry.proofs.Counts.{count_push}
 
 -- ---- lists by their places
 

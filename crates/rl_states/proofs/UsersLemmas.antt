@@ -1,26 +1,17 @@
 -- The users of rows, gathered one row after another.
-use Rattle.std.proofs.Common.{◌≡◌, ◌≢◌, ℕ, ◌+◌, ◌<◌, ◌≤◌, List, [], ◌∷◌, ◌++◌, Bool, true, false, cond, ◌&&◌, not, length, take, drop, set, get_or, replicate, nat_eq, nat_lt, Option, refl, ap, sym, subst, ◌∙◌, ⊎_elim, arith, Vec}
+use Rattle.std.proofs.Common.{◌≡◌, ◌≢◌, ℕ, ◌+◌, ◌<◌, ◌≤◌, List, [], ◌∷◌, ◌++◌, Bool, true, false, cond, ◌&&◌, not, length, set, replicate, nat_eq, nat_lt, Option, refl, ap, sym, subst, ◌∙◌, ⊎_elim, arith}
 use Rattle.std.specs.Prelude.{count_by}
-use Rattle.std.specs.declared.alloc.Global.{Global}
 use Rattle.std.specs.Option.{option_map_or}
 use Rattle.std.proofs.lemmas.Bool.{cases_eq, cases_lt, eq-eqb, ne_eqb, lt-ltb, le-ltb}
 use Rattle.std.proofs.lemmas.Option.{slice_get_past}
 use Rattle.std.proofs.lemmas.Bool.Decides.{nat_tests}
-use Rattle.std.proofs.lemmas.Grind.{common_steps}
-use Rattle.std.proofs.lemmas.List.{get_or-set_same, get_or-set_other, map-set, get_or-map, length-set, length-replicate, get_or-replicate}
-use Rattle.std.proofs.lemmas.List.Sums.{sum_by_push}
+use Rattle.std.proofs.lemmas.List.{get_or-set_same, get_or-set_other, length-set, length-replicate, get_or-replicate}
 use Rattle.rl_states.specs.Marks.{listed}
 use Rattle.rl_names.specs.declared.row.Row.{Row}
 use Rattle.rl_view_spec.specs.Closure.{Registered}
 use Rattle.rl_view_spec.specs.Numbers.{needed, needs_of}
-use Rattle.rl_states.specs.Users.{lists_of, AddsUser, AreUsers}
-
--- one element more
-pub count_push : (p : ℕ → Bool) (xs : List ℕ) (x : ℕ) → count_by p (xs ++ x ∷ []) ≡ count_by p xs + cond (p x) 1 0
-count_push p xs x = sum_by_push (λ (y : ℕ). cond (p y) 1 0) xs x
-
-none_from : (b : Bool) → b ≡ false → ◌≡◌ {A = ℕ} (cond b 1 0) 0
-none_from b e = ap (λ (c : Bool). cond c 1 0) e
+use Rattle.rl_registry.proofs.Counts.{count_push, none_from}
+use Rattle.rl_states.specs.Users.{AddsUser, AreUsers}
 
 pub adds_no_user : (user : ℕ) (lists : List (List ℕ)) → AddsUser user [] lists lists
 adds_no_user user lists = record { long = refl; each = λ row other low. step (nat_eq other user && not (nat_eq user row)) (count_by (nat_eq other) (listed lists row)) }
@@ -69,13 +60,6 @@ adds_other user need needs lists lists' a ne low = record {
         let is : listed (set lists' need (listed lists' need ++ user ∷ [])) row ≡ listed lists' row = get_or-set_other lists' need row (listed lists' need ++ user ∷ []) [] ne' in
         let same : count_by (nat_eq row) (needs ++ need ∷ []) ≡ count_by (nat_eq row) needs = omega (arith, count_push (nat_eq row) needs need, none_from (nat_eq row need) (ne_eqb row need ne')) in
         ap (count_by (nat_eq other)) is ∙ a.each row other lowr ∙ ap (λ (n : ℕ). count_by (nat_eq other) (listed lists row) + cond (nat_eq other user && not (nat_eq user row)) n 0) (sym same)
-
--- a push to one of the lists
-pub pushed : (lists : List (Vec ℕ Global)) (need user : ℕ) (d new : Vec ℕ Global) → need < length lists → new.items ≡ (get_or lists need d).items ++ user ∷ []
-    → lists_of (set lists need new) ≡ set (lists_of lists) need (listed (lists_of lists) need ++ user ∷ [])
-pushed lists need user d new low e =
-    map-set (λ (v : Vec ℕ Global). v.items) lists need new
-    ∙ ap (set (lists_of lists) need) (e ∙ ap (λ (xs : List ℕ). xs ++ user ∷ []) (sym (get_or-map (λ (v : Vec ℕ Global). v.items) lists need d [] low)))
 
 -- the users among the first rows
 pub record Gathered (r : Registered) (n : ℕ) (lists : List (List ℕ)) : Type 0 where
@@ -141,7 +125,3 @@ gathered_all r lists g = record {
         step : (b : Bool) → ◌≡◌ {A = ℕ} 0 (cond b 0 0)
         step true = refl
         step false = refl
-
--- what is lent as a slice and comes back at the same length
-pub lent_back : {X : Type 0} (n : ℕ) (xs ys : List X) → length xs ≡ length ys → length ys ≡ n → take n (xs ++ drop (length xs) ys) ≡ xs
-lent_back n xs ys e f = grind (arith, common_steps)

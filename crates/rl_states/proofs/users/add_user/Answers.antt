@@ -2,7 +2,8 @@ use Rattle.std.proofs.Common.{◌<◌, ℕ, List, length, take, get_or, arith, V
 use Rattle.std.specs.declared.alloc.Global.{Global}
 use Rattle.std.proofs.lemmas.List.{take_more, length-map}
 use Rattle.rl_states.specs.Users.{lists_of}
-use Rattle.rl_states.proofs.UsersLemmas.{adds_no_user, adds_itself, adds_other, pushed}
+use Rattle.rl_registry.proofs.Counts.{pushed}
+use Rattle.rl_states.proofs.UsersLemmas.{adds_no_user, adds_itself, adds_other}
 use Rattle.rl_states.proofs.users.add_user.Goals as goal
 use Rattle.rl_states.proofs.users.add_user.Goals.{then-need-user+in_ok-push, else-need-user}
 

@@ -6,9 +6,9 @@ use Rattle.rl_view_spec.specs.Progress.{HasDistinctNames, name_at}
 use Rattle.rl_view_spec.proofs.Places.{name_there}
 use Rattle.rl_registry.specs.Graph.{Edges}
 use Rattle.rl_registry.specs.Kept.{AreClosures, HasEdges, places_from}
-use Rattle.rl_registry.specs.Search.{unknown, unknown_of, unknown_in, least_from, IsLeastRow, FallFrom}
+use Rattle.rl_registry.specs.Search.{unknown, unknown_of, unknown_in, least_from, IsLeastRow}
 use Rattle.rl_registry.proofs.Leasts.{found_is_least}
-use Rattle.rl_registry.proofs.Loops.{loops, loop_none, no_loops}
+use Rattle.rl_registry.proofs.Loops.{AllFall, loops, loop_none, no_loops}
 use Rattle.rl_registry.proofs.Marked.{places_of_closures}
 use Rattle.rl_registry.proofs.Unknowns.{closure_low}
 use Rattle.rl_registry.proofs.Blamed.{refuses_unknown, refuses_cycle, accepts}
@@ -23,10 +23,10 @@ looked_through : (r : Registered) (names : List Text) (rows given : List ℕ) (f
 looked_through r names rows given found e f h =
     sym (h ∙ ap (λ (ks : List ℕ). least_from None (unknown r names ++ flat_map (unknown_of r) ks)) (e ∙ f) ∙ found_is_least (unknown_in r names))
 
-ranked : (r s : Registered) (edges es : Edges) (ranks rs : List ℕ) (names : List Text) (rows given : List ℕ) → HasEdges r edges → r ≡ s → es ≡ edges → given ≡ rows → rows ≡ closure_numbers s names → FallFrom es rs given
-    → HasEdges s es × FallFrom es rs (closure_numbers s names)
+ranked : (r s : Registered) (edges es : Edges) (ranks rs : List ℕ) (names : List Text) (rows given : List ℕ) → HasEdges r edges → r ≡ s → es ≡ edges → given ≡ rows → rows ≡ closure_numbers s names → AllFall es rs given
+    → HasEdges s es × AllFall es rs (closure_numbers s names)
 ranked r s edges es ranks rs names rows given has e f g h falls =
-    (subst (λ (q : Registered). HasEdges q es) e (subst (λ (xs : Edges). HasEdges r xs) (sym f) has), subst (λ (ks : List ℕ). FallFrom es rs ks) (g ∙ h) falls)
+    (subst (λ (q : Registered). HasEdges q es) e (subst (λ (xs : Edges). HasEdges r xs) (sym f) has), subst (λ (ks : List ℕ). AllFall es rs ks) (g ∙ h) falls)
 
 pub least_unknown-requires : goal.least_unknown-requires
 least_unknown-requires c =
@@ -45,7 +45,7 @@ returns-then-ranks_fall c =
     let distinct : HasDistinctNames c.args.self.now = subst (λ (r : Registered). HasDistinctNames r) c.self.view_is c.self.invariant.has_edges.distinct in
     let rows : c.in_ok-rows.rows.items ≡ closure_numbers c.args.self.now c.args.names.now = rows_are c.args.self.now c.args.names.now c.in_ok-marks.marks.items c.as_slice.result.now c.in_ok-rows.rows.items c.as_slice.ensures.value c.in_ok-marks.ensures c.in_ok-rows.ensures in
     let known : least (unknown_in c.args.self.now c.args.names.now) ≡ None = looked_through c.args.self.now c.args.names.now c.in_ok-rows.rows.items c.as_slice-2.result.now None c.as_slice-2.ensures.value rows c.in_default.ensures in
-    let falls = ranked _ c.args.self.now c.self.inside.edges.items c.as_slice-3.result.now c.self.inside.ranks.items c.as_slice-4.result.now c.args.names.now c.in_ok-rows.rows.items c.as_slice-5.result.now c.self.invariant.has_edges c.self.view_is c.as_slice-3.ensures.value c.as_slice-5.ensures.value rows (c.ranks_fall.ensures c.if-ranks_fall.true) in
+    let falls = ranked _ c.args.self.now c.self.inside.edges.items c.as_slice-3.result.now c.self.inside.ranks.items c.as_slice-4.result.now c.args.names.now c.in_ok-rows.rows.items c.as_slice-5.result.now c.self.invariant.has_edges c.self.view_is c.as_slice-3.ensures.value c.as_slice-5.ensures.value rows (sym c.ranks_fall.ensures ∙ c.if-ranks_fall.true) in
     (accepts c.args.self.now c.args.names.now distinct known (no_loops c.args.self.now c.as_slice-3.result.now c.as_slice-4.result.now c.args.names.now falls.0 falls.1), rows)
 
 pub returns-in-Some-2 : goal.returns-in-Some-2

@@ -2,7 +2,8 @@ use Rattle.std.proofs.Common.{◌≡◌, ◌+◌, [], ℕ, List, length, replica
 use Rattle.std.specs.declared.alloc.Global.{Global}
 use Rattle.rl_view_spec.specs.Numbers.{needs_of}
 use Rattle.rl_states.specs.Users.{lists_of, AddsUser}
-use Rattle.rl_states.proofs.UsersLemmas.{Gathered, gathered_none, gathered_more, gathered_all, lent_back}
+use Rattle.rl_registry.proofs.Counts.{lent_back}
+use Rattle.rl_states.proofs.UsersLemmas.{Gathered, gathered_none, gathered_more, gathered_all}
 use Rattle.rl_states.proofs.users.Users.open.Goals as goal
 
 pub loop-row-init : goal.loop-row-init
