@@ -1,5 +1,5 @@
 -- What a wiki says of a module, where it has one of that name.
-use Rattle.std.specs.Prelude.{◌↔◌, ℕ, List, map, Option, option_map, IsSome, Contains}
+use Rattle.std.specs.Prelude.{◌↔◌, ℕ, List, Option, option_map, IsSome, Contains}
 use Rattle.rl_names.specs.Packing.{distinct}
 use Rattle.rl_defs.specs.Ascending.{IsAscending}
 use Rattle.rl_defs.specs.Catalogue.{Catalogue, module_named}

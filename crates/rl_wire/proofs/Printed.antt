@@ -1,6 +1,6 @@
 -- What a writer prints for JSON values.
-use Rattle.std.proofs.Common.{◌≡◌, ℕ, Bool, true, false, List, [], ◌∷◌, ◌++◌, map, refl, sym, ap, ◌∙◌, append-nil, append_assoc}
-use Rattle.std.specs.List.{fold, flat_map, join_with_byte}
+use Rattle.std.proofs.Common.{◌≡◌, ℕ, Bool, true, false, List, [], ◌∷◌, ◌++◌, refl, sym, ap, ◌∙◌, append-nil, append_assoc}
+use Rattle.std.specs.List.{fold}
 use Rattle.std.proofs.lemmas.List.Sums.{fold-append}
 use Rattle.json.specs.Token.{Token}
 use Rattle.json.specs.Print.{print, print_from, ends}
@@ -8,7 +8,7 @@ use Rattle.json.specs.Json as json
 use Rattle.json.specs.Tree.{json_tokens, items_tokens, members_tokens}
 use Rattle.json.proofs.Printed.Tokens.{print_from-append}
 use Rattle.serde_json.specs.Data.{Data, null, boolean, number, string, array, object}
-use Rattle.serde_json.specs.Written.{outline, items_outline, members_outline, compact_text, items_text}
+use Rattle.serde_json.specs.Written.{items_outline, members_outline, compact_text, items_text}
 use Rattle.serde_json.proofs.Texts.{print-outline}
 use Rattle.rl_wire.specs.Tokens.{value_tokens, values_tokens}
 use Rattle.rl_wire.specs.Payload.{items_of, array_of}

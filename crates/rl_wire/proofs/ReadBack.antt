@@ -11,14 +11,13 @@ use Rattle.json.specs.Json as json
 use Rattle.json.specs.Tree as tree
 use Rattle.json.proofs.Printed.Tokens.{tokens-print}
 use Rattle.json.proofs.Printed.Trees.{value-json_tokens, ArePrintable-json_tokens}
-use Rattle.serde_json.specs.Data.{Data, string, no_members, Members, member, put}
+use Rattle.serde_json.specs.Data.{Data, string, no_members, member, put}
 use Rattle.serde_json.specs.Read.{read, max_depth, of_json, of_items, of_members}
 use Rattle.serde_json.specs.Written.{compact_text, outline, items_outline, members_outline}
 use Rattle.serde_json.proofs.Texts.{print-outline}
 use Rattle.rl_names.specs.declared.part.Message.{Message}
 use Rattle.rl_wire.specs.Message.{IsBelow, AreAscending, members_of, messages_value}
 use Rattle.rl_wire.specs.Payload.{styles_value, payload_values, items_of, array_of, payload_text}
-use Rattle.rl_wire.specs.declared.part.Part.{Part}
 use Rattle.rl_wire.specs.declared.part.Part.TheVariants.{Impl, State}
 use Rattle.rl_wire.specs.Line.{arguments_text, arguments_of, ArgumentsReadBack}
 use Rattle.rl_wire.proofs.Printed.{in_brackets}

@@ -1,10 +1,9 @@
 -- What a module brings, as JSON: the text that its version is the hash of.
-use Rattle.std.specs.Prelude.{◌≡◌, Some, ℕ, List, [], ◌∷◌, codes}
-use Rattle.serde_json.specs.Read.{read}
+use Rattle.std.specs.Prelude.{ℕ, List, [], ◌∷◌, codes}
 use Rattle.serde_json.specs.Data.{Data, string, array, object, Items, no_items, item, no_members, member}
 use Rattle.serde_json.specs.Written.{compact_text}
 use Rattle.rl_names.specs.declared.part.Message.{Message}
-use Rattle.rl_wire.specs.Message.{AreAscending, messages_value}
+use Rattle.rl_wire.specs.Message.{messages_value}
 
 -- the styles as JSON: a list of one text under `css`, and an empty object where there are none
 abbrev pub styles_value : List ℕ → Data

@@ -1,5 +1,5 @@
 -- JSON values as the tokens that a writer is given, for clauses of private functions.
-use Rattle.std.specs.Prelude.{◌≡◌, ℕ, List, ◌++◌, flat_map, Result, OnOk}
+use Rattle.std.specs.Prelude.{◌≡◌, List, ◌++◌, flat_map, Result, OnOk}
 use Rattle.json.specs.Token.{Token}
 use Rattle.json.specs.Tree.{json_tokens}
 use Rattle.json.specs.Written.{Written}

@@ -2,7 +2,7 @@ use Rattle.std.proofs.Common.{◌≡◌, ◌++◌, ◌∷◌, [], ap, ◌∙◌,
 use Rattle.json.specs.Token.{begin_array, end_array}
 use Rattle.json.specs.Print.{print}
 use Rattle.serde_json.specs.Read.{read}
-use Rattle.rl_wire.specs.Payload.{payload_values, payload_text}
+use Rattle.rl_wire.specs.Payload.{payload_values}
 use Rattle.rl_wire.specs.Tokens.{values_tokens}
 use Rattle.rl_wire.proofs.Printed.{print-array}
 use Rattle.rl_wire.proofs.ReadBack.{payload_reads_back}

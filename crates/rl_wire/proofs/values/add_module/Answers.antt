@@ -1,7 +1,6 @@
-use Rattle.std.proofs.Common.{◌≡◌, ◌∷◌, ◌∙◌, rules}
+use Rattle.std.proofs.Common.{◌∷◌, rules}
 use Rattle.serde_json.specs.Data.{string}
 use Rattle.rl_wire.specs.Payload.{payload_values}
-use Rattle.rl_wire.specs.Tokens.{values_tokens}
 use Rattle.rl_wire.proofs.Printed.{written}
 use Rattle.rl_wire.proofs.values.add_module.Goals as goal
 
