@@ -208,15 +208,15 @@ fn line_of_definitions(alloc: Global, definitions: &str) -> Result<String, Fail>
 #[test]
 fn what_is_told_of_definitions(rt: HostRuntime) -> Result<(), Fail> {
     for (definitions, text) in [
-        ("[", "wiki.toml: the file is not TOML (11)"),
+        ("[", "wiki.toml: not TOML (11)"),
         (
             "wiki.colour = 1",
-            "wiki.toml: `colour` is unknown, or its value is none that it may have (12)",
+            "wiki.toml: the field `colour` is unknown or has a bad value (12)",
         ),
         ("modules.a = 3", "wiki.toml: module `a` is no table (12)"),
         (
             "modules.a.x = 3",
-            "wiki.toml: module `a`: `x` is unknown, or its value is none that it may have (12)",
+            "wiki.toml: module `a` has the field `x`, which is unknown or has a bad value (12)",
         ),
         (
             "modules.a.dependencies = [\"b\"]",
