@@ -1,9 +1,7 @@
 use Rattle.std.proofs.Common.{◌∙◌, ap, sym, Some, ℕ, length}
 use Rattle.std.specs.Prelude.{slice_set}
 use Rattle.std.proofs.lemmas.Result.{on_ok_weaker}
-use Rattle.rl_view_spec.specs.Closure.{Text}
 use Rattle.rl_drive.specs.Seen.{counting_row}
-use Rattle.rl_drive.specs.declared.content.Content.{Content}
 use Rattle.rl_drive.proofs.Parts.{give_passed, give_used}
 use Rattle.rl_drive.proofs.player.Player.give.Goals as goal
 
