@@ -1,16 +1,14 @@
 -- What a part does to what is kept of a view.
-use Rattle.std.proofs.Common.{◌≡◌, ◌≢◌, ℕ, ◌<◌, List, [], ◌∷◌, Bool, true, false, cond, ◌&&◌, not, length, map, Option, Some, None, refl, ap, ap₂, sym, subst, ◌∙◌, ⊎_elim}
-use Rattle.std.specs.Prelude.{bytes_eq, if◌then◌else◌, is_none, is_some, nat_eq, option_and_then, option_map, slice_get, slice_set}
-use Rattle.std.specs.List.{list_any}
-use Rattle.std.proofs.lemmas.Bool.{and_left, and_parts, both_ways, cases_Bool, false_from_ne_true, cases_eq}
+use Rattle.std.proofs.Common.{◌≡◌, ◌≢◌, ℕ, ◌<◌, List, [], ◌∷◌, Bool, true, false, ◌&&◌, not, length, map, Option, Some, None, refl, ap, ap₂, sym, subst, ◌∙◌, ⊎_elim}
+use Rattle.std.specs.Prelude.{bytes_eq, if◌then◌else◌, is_none, is_some, option_and_then, option_map, slice_get, slice_set}
+use Rattle.std.proofs.lemmas.Bool.{and_left, and_parts, false_from_ne_true, cases_eq}
 use Rattle.std.proofs.lemmas.Option.{slice_get_within}
 use Rattle.rl_names.specs.declared.row.Row.{Row}
-use Rattle.rl_view_spec.specs.declared.Outcome.{Outcome}
-use Rattle.rl_view_spec.specs.Closure.{Text, Registered, has_row, is_skipped}
+use Rattle.rl_view_spec.specs.Closure.{Text, Registered, is_skipped}
 use Rattle.rl_view_spec.specs.Laws.{AreLawful}
 use Rattle.rl_view_spec.specs.Numbers.{number_of}
-use Rattle.rl_view_spec.specs.Progress.{Progress, Cell, HasDistinctNames, name_at, is_skipped_at, is_touched_at, outcome_at}
-use Rattle.rl_view_spec.specs.View.{View, Event, Answer, answer_in, or_else, is_touched, first_of, kind_of, cell_of, progress_of, log_of}
+use Rattle.rl_view_spec.specs.Progress.{Progress, HasDistinctNames, name_at, is_skipped_at, outcome_at}
+use Rattle.rl_view_spec.specs.View.{View, Event, Answer, or_else, is_touched, first_of, kind_of, cell_of, progress_of, log_of}
 use Rattle.rl_view_spec.proofs.Chains.{same}
 use Rattle.rl_view_spec.proofs.Log.{touched_row, outcome_row}
 use Rattle.rl_view_spec.proofs.Tools.{place_there}
@@ -23,7 +21,7 @@ use Rattle.rl_drive.specs.Drives.{quiet}
 use Rattle.rl_drive.specs.Seen.{HasSeen, counting_row, counts_at, content_by, content_of}
 use Rattle.rl_drive.specs.declared.content.Content.{Content}
 use Rattle.rl_drive.proofs.Lists.{set_placed}
-use Rattle.rl_drive.proofs.Touching.{cell_by, or_none, progress_by, progress_on, seen_on}
+use Rattle.rl_drive.proofs.Touching.{cell_by, or_none, progress_on, seen_on}
 
 -- a part that comes by itself
 abbrev pub answers : Text → Answer → Event

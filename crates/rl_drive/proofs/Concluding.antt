@@ -1,5 +1,5 @@
 -- The verdict on a script, from what its parts answer.
-use Rattle.std.proofs.Common.{◌≡◌, ℕ, List, Bool, true, false, Option, Some, None, Err, refl, ap, ap₂, subst, sym, ◌∙◌, reverse}
+use Rattle.std.proofs.Common.{◌≡◌, ℕ, List, Bool, Option, Some, None, Err, ap, ap₂, sym, ◌∙◌, reverse}
 use Rattle.std.specs.declared.alloc.Global.{Global}
 use Rattle.std.specs.Prelude.{Vec, if◌then◌else◌, option_map}
 use Rattle.std.specs.Option.{option_map_or}

@@ -1,20 +1,16 @@
 -- A player that runs what is due.
-use Rattle.std.proofs.Common.{◌≡◌, ◌≢◌, ℕ, ◌<◌, length, List, ◌∷◌, ◌++◌, true, None, Some, ap, sym, subst, ◌∙◌}
-use Rattle.std.specs.Prelude.{codes, slice_get, slice_set}
+use Rattle.std.proofs.Common.{◌≡◌, ℕ, List, ◌∷◌, ◌++◌, None, ap, ◌∙◌}
+use Rattle.std.specs.Prelude.{codes}
 use Rattle.rl_view_spec.specs.Closure.{Text, Registered}
-use Rattle.rl_view_spec.specs.Progress.{Progress, next_row}
+use Rattle.rl_view_spec.specs.Progress.{next_row}
 use Rattle.rl_view_spec.specs.View.{Event, log_of}
-use Rattle.rl_view_spec.proofs.Tools.{place_there}
 use Rattle.rl_script_spec.specs.Output.{line}
 use Rattle.rl_drive.specs.Drives.{quiet}
 use Rattle.rl_drive.specs.Played.{run_at}
-use Rattle.rl_drive.specs.Player.{IsDue, Ran, RunsDue, Sees, Stays}
-use Rattle.rl_drive.specs.Seen.{content_of}
-use Rattle.rl_drive.specs.declared.content.Content.{Content}
+use Rattle.rl_drive.specs.Player.{IsDue, Ran, RunsDue, Stays}
 use Rattle.rl_drive.specs.declared.player.Player.{Player}
-use Rattle.rl_drive.proofs.Lists.{set_here, set_other}
-use Rattle.rl_drive.proofs.Running.{Runs, next_within, runs_lines, runs_more, runs_seen}
-use Rattle.rl_drive.proofs.Taking.{registered_is, stays_seen}
+use Rattle.rl_drive.proofs.Running.{Runs, runs_lines, runs_more, runs_seen}
+use Rattle.rl_drive.proofs.Taking.{stays_seen}
 
 pub dues_next : (r : Registered) (event : Event) (past : List Event) (row : ℕ) (old new : Player) (out before out' : Text) → Ran row old new
     → Runs r event past old.table old.contents.items out before → out' ≡ before ++ line (codes "ran " ++ run_at new.table new.contents.items row)

@@ -1,8 +1,6 @@
 -- What a part does to a player.
-use Rattle.std.proofs.Common.{◌≡◌, ◌≢◌, ℕ, ◌<◌, List, [], ◌∷◌, ◌++◌, Bool, true, false, length, Option, Some, None, refl, ap, sym, subst, ◌∙◌, get_or, nat_eq}
+use Rattle.std.proofs.Common.{◌≡◌, ◌≢◌, ℕ, List, ◌++◌, Bool, length, Option, Some, None, refl, ap, sym, subst, ◌∙◌}
 use Rattle.std.specs.Prelude.{codes, is_some, slice_get, slice_set}
-use Rattle.std.specs.List.{list_any}
-use Rattle.std.proofs.lemmas.Option.{get_or_from_slice_get}
 use Rattle.rl_names.specs.declared.kind.StateKind.{StateKind}
 use Rattle.rl_names.specs.declared.kind.StateKind.TheVariants as kinds
 use Rattle.rl_names.specs.declared.name.Key.{Key}
@@ -10,8 +8,7 @@ use Rattle.rl_names.specs.declared.row.Row.{Row}
 use Rattle.rl_view_spec.specs.declared.Outcome.TheVariants as outcome
 use Rattle.rl_view_spec.specs.Closure.{Text, Registered}
 use Rattle.rl_view_spec.specs.Progress.{Progress}
-use Rattle.rl_view_spec.specs.View.{Event, Answer, Implementation, Missing, Failed, kind_of, log_of}
-use Rattle.rl_view_spec.proofs.Tools.{place_there}
+use Rattle.rl_view_spec.specs.View.{Event, Answer, Implementation, kind_of, log_of}
 use Rattle.rl_script_spec.specs.Output.{answer_of, counts, events_of, line, part_line}
 use Rattle.rl_script_spec.specs.declared.Step.{Step}
 use Rattle.rl_script_spec.specs.declared.Step.TheVariants.{Impl, State}

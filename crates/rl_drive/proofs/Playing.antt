@@ -1,11 +1,11 @@
 -- Whole steps, and all steps of a script.
-use Rattle.std.proofs.Common.{◌≡◌, ℕ, ◌+◌, ◌<◌, ◌≤◌, List, [], ◌∷◌, ◌++◌, Bool, length, take, get_or, reverse, None, refl, ap, ap₂, sym, subst, ◌∙◌, append_assoc}
+use Rattle.std.proofs.Common.{◌≡◌, ℕ, ◌+◌, ◌<◌, ◌≤◌, List, [], ◌∷◌, ◌++◌, length, take, get_or, reverse, None, ap, ap₂, sym, subst, ◌∙◌}
 use Rattle.std.specs.Prelude.{codes, drop}
 use Rattle.std.proofs.lemmas.List.{reverse-append, take_all, take_more}
 use Rattle.rl_view_spec.specs.Closure.{Text, Registered}
 use Rattle.rl_view_spec.specs.Progress.{next_row}
 use Rattle.rl_view_spec.specs.View.{log_of}
-use Rattle.rl_script_spec.specs.Output.{all_ready, event_of, events_of, line, output_of, replies_of, reply_line, reply_to, summary_of}
+use Rattle.rl_script_spec.specs.Output.{event_of, events_of, line, replies_of, reply_line, reply_to, summary_of}
 use Rattle.rl_script_spec.specs.declared.Step.{Step}
 use Rattle.rl_script_spec.proofs.Order.{steps_lawful}
 use Rattle.rl_drive.specs.Drives.{quiet}

@@ -1,9 +1,8 @@
 -- What is printed of a row, and what a run does to it.
-use Rattle.std.proofs.Common.{◌≡◌, ◌≢◌, ℕ, zero, suc, ◌+◌, ◌-◌, ◌<◌, ◌≤◌, List, [], ◌∷◌, ◌++◌, Bool, true, false, cond, ◌||◌, not, length, map, Option, Some, None, refl, ap, ap₂, sym, subst, ◌∙◌, ⊎_elim, arith, append_assoc, append-nil, nat_eq}
-use Rattle.std.specs.Prelude.{Contains, codes, decimal, drop, filter, flat_map, if◌then◌else◌, option_map, slice_get, IsTrue}
-use Rattle.std.specs.List.{list_any}
+use Rattle.std.proofs.Common.{◌≡◌, ℕ, suc, ◌<◌, ◌≤◌, List, [], ◌∷◌, ◌++◌, Bool, true, false, cond, ◌||◌, not, length, Option, Some, None, refl, ap, ap₂, sym, subst, ◌∙◌, ⊎_elim, arith, append_assoc, append-nil, nat_eq}
+use Rattle.std.specs.Prelude.{Contains, codes, decimal, drop, filter, if◌then◌else◌, slice_get}
 use Rattle.std.specs.Option.{option_map_or}
-use Rattle.std.proofs.lemmas.Bool.{both_ways, cases_eq, eq-eqb, ne_eqb, not-true, not_from_false, not_from_true, or_left, or_parts, or_right}
+use Rattle.std.proofs.lemmas.Bool.{both_ways, eq-eqb, not-true, not_from_false, not_from_true, or_left, or_parts, or_right}
 use Rattle.std.proofs.lemmas.List.{drop_at, map_push}
 use Rattle.std.proofs.lemmas.List.Concat.{flat_map-append}
 use Rattle.std.proofs.lemmas.List.Folds.{list_any-append}
@@ -17,11 +16,11 @@ use Rattle.rl_view_spec.proofs.Once.{found_passes}
 use Rattle.rl_view_spec.proofs.Places.{apart, name_there, number_within, place_of, row_named}
 use Rattle.rl_view_spec.proofs.Steps.{loop_ends, runs_one_more}
 use Rattle.rl_view_spec.proofs.Tools.{contains_cases, contains_none, found_in, place_in, place_there}
-use Rattle.rl_script_spec.specs.Output.{key_of, key_or_name, line, row_version, run_line, run_text, script_of, version_of}
+use Rattle.rl_script_spec.specs.Output.{key_of, key_or_name, line, row_version, run_line, run_text, version_of}
 use Rattle.rl_states.specs.Changes.{after_ran}
 use Rattle.rl_drive.specs.Drives.{never, quiet}
 use Rattle.rl_drive.specs.Played.{key_at, run_at, run_lines}
-use Rattle.rl_drive.specs.Seen.{HasSeen, content_by, content_of}
+use Rattle.rl_drive.specs.Seen.{HasSeen}
 use Rattle.rl_drive.specs.declared.content.Content.{Content}
 use Rattle.rl_drive.proofs.Touching.{progress_by}
 

@@ -1,15 +1,15 @@
 -- The summary and readiness.
-use Rattle.std.proofs.Common.{◌≡◌, ℕ, ◌+◌, ◌<◌, List, [], ◌∷◌, ◌++◌, Bool, true, false, cond, ◌&&◌, not, length, map, Option, Some, None, refl, ap, ap₂, sym, subst, ◌∙◌, ⊎_elim, arith, nat_eq, reverse}
+use Rattle.std.proofs.Common.{◌≡◌, ℕ, ◌+◌, List, [], ◌∷◌, ◌++◌, Bool, true, false, ◌&&◌, map, Option, Some, None, refl, ap, ap₂, sym, subst, ◌∙◌, ⊎_elim, arith, nat_eq, reverse}
 use Rattle.std.specs.Prelude.{Contains, codes, filter, flat_map, if◌then◌else◌, is_none, slice_get}
-use Rattle.std.specs.List.{enumerate_from, list_all, list_any}
+use Rattle.std.specs.List.{list_all, list_any}
 use Rattle.std.specs.Option.{option_map_or}
-use Rattle.std.proofs.lemmas.Bool.{eq-eqb, eqb-true, both_ways, cases_Bool, false_from_ne_true, true_from_ne_false}
+use Rattle.std.proofs.lemmas.Bool.{eq-eqb, eqb-true, false_from_ne_true, true_from_ne_false}
 use Rattle.std.proofs.lemmas.List.{reverse-append}
 use Rattle.std.proofs.lemmas.List.Folds.{flat_map-map, list_all-append}
 use Rattle.std.proofs.lemmas.Option.{slice_get_within}
 use Rattle.rl_names.specs.declared.row.Row.{Row}
 use Rattle.rl_view_spec.specs.declared.Phase.{Phase}
-use Rattle.rl_view_spec.specs.Closure.{Text, Registered, has_row, refusal_of, resolves}
+use Rattle.rl_view_spec.specs.Closure.{Text, Registered, refusal_of, resolves}
 use Rattle.rl_view_spec.specs.Laws.{AreLawful}
 use Rattle.rl_view_spec.specs.Numbers.{number_of}
 use Rattle.rl_view_spec.specs.Progress.{Progress, name_at, row_numbers, is_touched_at, has_run, phase_of}
@@ -18,14 +18,14 @@ use Rattle.rl_view_spec.proofs.Log.{logged_ran, ran_logged, touched_row}
 use Rattle.rl_view_spec.proofs.Places.{name_there, number_within}
 use Rattle.rl_view_spec.proofs.Resolve.{closure_itself, resolves_accepted, touched_resolves}
 use Rattle.rl_view_spec.proofs.States.{iff_same, phase_alike, untouched}
-use Rattle.rl_view_spec.proofs.Tools.{all_each, any_one, each_all, one_any, contains_cases, contains_none, contains_tail, place_there}
+use Rattle.rl_view_spec.proofs.Tools.{all_each, any_one, each_all, one_any, contains_cases, contains_none, place_there}
 use Rattle.rl_registry.proofs.Kept.{number_found, number_named}
-use Rattle.rl_script_spec.specs.Output.{are_ready, events_of, is_ready, key_of, line, names_where, run_text, state_line, state_word, was_served}
+use Rattle.rl_script_spec.specs.Output.{are_ready, is_ready, line, names_where, run_text, state_line, state_word, was_served}
 use Rattle.rl_script_spec.specs.declared.Step.{Step}
 use Rattle.rl_script_spec.specs.declared.Step.TheVariants.{Using, Load, Impl, State}
 use Rattle.rl_drive.specs.Drives.{quiet}
-use Rattle.rl_drive.specs.Played.{executed_lines, is_ready_at, is_served_at, key_at, run_at, state_at, state_lines}
-use Rattle.rl_drive.specs.Seen.{HasSeen, content_of}
+use Rattle.rl_drive.specs.Played.{executed_lines, is_ready_at, is_served_at, run_at, state_at, state_lines}
+use Rattle.rl_drive.specs.Seen.{HasSeen}
 use Rattle.rl_drive.specs.declared.content.Content.{Content}
 use Rattle.rl_drive.proofs.Lists.{flat_map_alike, flat_map_if, flat_map_numbers}
 use Rattle.rl_drive.proofs.Running.{key_alike, run_alike}

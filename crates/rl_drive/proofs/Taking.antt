@@ -1,16 +1,14 @@
 -- What each kind of step does to a player.
-use Rattle.std.proofs.Common.{◌≡◌, ◌≢◌, ℕ, ◌+◌, ◌<◌, ◌≤◌, List, [], ◌∷◌, ◌++◌, Bool, true, false, cond, not, length, Option, Some, None, Ok, refl, ap, ap₂, sym, subst, ◌∙◌, take, get_or, nat_eq, append-nil, arith}
-use Rattle.std.specs.Prelude.{codes, count_by, decimal, filter, if◌then◌else◌, is_none, is_some, slice_get}
-use Rattle.std.specs.List.{list_any}
+use Rattle.std.proofs.Common.{◌≡◌, ℕ, ◌+◌, ◌<◌, ◌≤◌, List, [], ◌∷◌, ◌++◌, Bool, true, false, cond, not, length, Option, Some, None, Ok, refl, ap, ap₂, sym, subst, ◌∙◌, take, get_or, append-nil, arith}
+use Rattle.std.specs.Prelude.{codes, count_by, decimal, filter, if◌then◌else◌, is_none}
 use Rattle.std.proofs.lemmas.List.{take_all, take_more}
 use Rattle.std.proofs.lemmas.List.Sums.{count_by_more_no, count_by_more_yes}
-use Rattle.rl_names.specs.declared.row.Row.{Row}
 use Rattle.rl_view_spec.specs.Closure.{Text, Registered, Refusal, refusal_of, resolves}
 use Rattle.rl_view_spec.specs.Progress.{Progress}
 use Rattle.rl_view_spec.specs.View.{Event, log_of}
 use Rattle.rl_script_spec.specs.Output.{event_of, events_of, line, refused_line}
 use Rattle.rl_script_spec.specs.declared.Step.{Step}
-use Rattle.rl_script_spec.specs.declared.Step.TheVariants.{Using, Load, Impl, State}
+use Rattle.rl_script_spec.specs.declared.Step.TheVariants.{Using, Load}
 use Rattle.rl_drive.specs.Drives.{quiet}
 use Rattle.rl_drive.specs.Player.{HasPlayed, Sees, IsDue, RequestsOne, Stays, Touches, TakesIn}
 use Rattle.rl_drive.specs.Seen.{HasSeen}

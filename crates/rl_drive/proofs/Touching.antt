@@ -1,22 +1,20 @@
 -- What a request does to what is kept of a view.
-use Rattle.std.proofs.Common.{◌≡◌, ℕ, ◌+◌, ◌<◌, List, [], ◌∷◌, ◌++◌, Bool, true, false, cond, ◌&&◌, ◌||◌, not, length, map, nat_eq, Option, Some, None, refl, ap, ap₂, sym, subst, ◌∙◌, ⊎_elim, arith, get_or}
-use Rattle.std.specs.Prelude.{All, Contains, filter, if◌then◌else◌, is_none, option_map, slice_get}
-use Rattle.std.specs.List.{enumerate_from, list_any}
+use Rattle.std.proofs.Common.{◌≡◌, ℕ, ◌+◌, ◌<◌, List, [], ◌∷◌, ◌++◌, Bool, true, false, ◌&&◌, ◌||◌, not, length, map, nat_eq, Option, Some, None, refl, ap, ap₂, sym, subst, ◌∙◌, arith, get_or}
+use Rattle.std.specs.Prelude.{All, Contains, filter, if◌then◌else◌, option_map, slice_get}
+use Rattle.std.specs.List.{list_any}
 use Rattle.std.proofs.lemmas.Bool.{eqb-true, eq-eqb}
 use Rattle.std.proofs.lemmas.List.Elements.{Contains-get_or}
 use Rattle.std.proofs.lemmas.List.Folds.{list_any-append}
 use Rattle.std.proofs.lemmas.Option.{slice_get_within}
 use Rattle.rl_names.specs.declared.row.Row.{Row}
-use Rattle.rl_view_spec.specs.declared.Outcome.{Outcome}
-use Rattle.rl_view_spec.specs.Closure.{Text, Registered, Refusal, in_closure, in_closures, is_skipped, refusal_of}
+use Rattle.rl_view_spec.specs.Closure.{Text, Registered, in_closure, in_closures, is_skipped}
 use Rattle.rl_view_spec.specs.Numbers.{closure_numbers}
 use Rattle.rl_view_spec.specs.Progress.{Progress, Cell, name_at, row_numbers}
-use Rattle.rl_view_spec.specs.View.{View, Event, Answer, answer_in, or_else, is_touched, first_of, kind_of, cell_of, progress_of, log_of}
+use Rattle.rl_view_spec.specs.View.{View, Event, Answer, or_else, is_touched, first_of, kind_of, cell_of, progress_of, log_of}
 use Rattle.rl_view_spec.proofs.Tools.{any_one, one_any, contains_filter, filter_contains}
 use Rattle.rl_view_spec.proofs.Places.{name_there, number_in, number_within}
 use Rattle.rl_view_spec.proofs.States.{iff_same}
 use Rattle.rl_view_spec.proofs.Steps.{map_alike, runs_stay}
-use Rattle.rl_script_spec.specs.Output.{version_of, script_of}
 use Rattle.rl_states.specs.Changes.{after_touch}
 use Rattle.rl_states.specs.Standings.{by_place}
 use Rattle.rl_drive.specs.Drives.{quiet}

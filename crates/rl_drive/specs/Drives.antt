@@ -1,5 +1,5 @@
 -- What becomes of a script.
-use Rattle.std.specs.Prelude.{◌≡◌, Bool, false, Result, Ok, Err}
+use Rattle.std.specs.Prelude.{◌≡◌, false, Result, Ok, Err}
 use Rattle.rl_view_spec.specs.Closure.{Registered}
 use Rattle.rl_view_spec.specs.View.{View, Throws}
 use Rattle.rl_script_spec.specs.Script.{Verdict, Prints, BadLine, TooMany}

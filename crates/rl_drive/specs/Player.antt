@@ -13,7 +13,6 @@ use Rattle.rl_states.specs.Changes.{after_ran, after_touch}
 use Rattle.rl_drive.specs.Drives.{quiet}
 use Rattle.rl_drive.specs.Played.{run_lines}
 use Rattle.rl_drive.specs.Seen.{HasSeen}
-use Rattle.rl_drive.specs.declared.content.Content.{Content}
 use Rattle.rl_drive.specs.declared.player.Player.{Player}
 
 -- its view has this past, of which these rows ran

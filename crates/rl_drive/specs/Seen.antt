@@ -4,7 +4,7 @@ use Rattle.rl_names.specs.declared.row.Row.{Row}
 use Rattle.rl_view_spec.specs.Closure.{Text, Registered}
 use Rattle.rl_view_spec.specs.Numbers.{number_of}
 use Rattle.rl_view_spec.specs.Progress.{Progress, HasDistinctNames, is_touched_at, is_skipped_at, outcome_at}
-use Rattle.rl_view_spec.specs.View.{View, Event, Answer, first_of, progress_of, log_of}
+use Rattle.rl_view_spec.specs.View.{View, Event, Answer, first_of, progress_of}
 use Rattle.rl_script_spec.specs.Output.{version_of, script_of}
 use Rattle.rl_drive.specs.Drives.{quiet}
 use Rattle.rl_drive.specs.declared.content.Content.{Content}

@@ -116,7 +116,7 @@ impl Player {
     }
 
     /// The row for which a part of this name counts: it is touched, is not skipped and has no outcome.
-    fn counting(&self, name: &[u8]) -> Option<u32>
+    fn counting_row(&self, name: &[u8]) -> Option<u32>
         ensures { result ≡ counting_row self.now.table name.now }
     {
         let row = self.table.registry().find(name)?;
@@ -134,7 +134,7 @@ impl Player {
     fn give(&mut self, key: &Key, script: &Text, out: &mut Vec<u8>) -> Result<(), NoMemory>
         ensures { OnOk result (TakesIn (Step.Impl key.now script.now) self.old self.new out.old.items out.new.items) }
     {
-        let Some(row) = self.counting(key.name.as_bytes()) else {
+        let Some(row) = self.counting_row(key.name.as_bytes()) else {
             return write_line(out, "passed");
         };
         self.table.outcome(row, Outcome::Impl);
@@ -148,7 +148,7 @@ impl Player {
     fn settle(&mut self, name: &Text, kind: StateKind, out: &mut Vec<u8>) -> Result<(), NoMemory>
         ensures { OnOk result (TakesIn (Step.State name.now kind) self.old self.new out.old.items out.new.items) }
     {
-        let Some(row) = self.counting(name.as_bytes()) else {
+        let Some(row) = self.counting_row(name.as_bytes()) else {
             return write_line(out, "passed");
         };
         self.table.outcome(row, outcome_of(kind));
@@ -244,6 +244,7 @@ impl Player {
         self.write_executed(out)
     }
 
+    /// Whether a name has a row that is ready.
     fn is_ready(&self, name: &Text) -> bool
         requires { next_row self.now.table ≡ None }
         ensures { result ≡ is_ready_at self.now.table name.now }
@@ -267,10 +268,8 @@ impl Player {
         ensures { result ≡ is_served_at self.now.table step.now }
     {
         match step {
-            Step::Using { names } => self.are_ready(names.as_slice()),
-            Step::Load { names } => self.are_ready(names.as_slice()),
-            Step::Impl { .. } => true,
-            Step::State { .. } => true,
+            Step::Using { names } | Step::Load { names } => self.are_ready(names.as_slice()),
+            Step::Impl { .. } | Step::State { .. } => true,
         }
     }
 

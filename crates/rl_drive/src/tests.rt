@@ -250,46 +250,47 @@ const ROWS: [(&str, &[&str]); 7] = [
     ("P", &[]),
 ];
 
-/// Steps of the whole grammar.
+/// Steps of the whole grammar, whether all is ready at the end, and what is printed.
+const STEPS: [(&[(&str, &[&str])], bool, &str); 4] = [
+    (&[], true, "summary\nview 0\n"),
+    (
+        &[("using", &["A"]), ("a()", &["A@aaaaa"])],
+        true,
+        "using ok\nused\nran A@aaaaa 3\n\
+summary\nview 0\nready A@aaaaa\nready S@aaaaa\nexecuted A@aaaaa 3\n",
+    ),
+    (
+        &[("load", &["P"]), ("p()", &["P@ppppp"])],
+        true,
+        "load dropped 0\nused\nran P@ppppp 3\n\
+summary\nview 0\nready P@ppppp\nexecuted P@ppppp 3\n",
+    ),
+    (
+        &[
+            ("using", &["A", "D"]),
+            ("using", &["E"]),
+            ("load", &["D", "A", "x", "F", "x"]),
+            ("c()", &["C@ccccc"]),
+            ("s()", &["S@sssss"]),
+            ("a();", &["A@bbbbb"]),
+            ("error", &["P"]),
+            ("f()", &["F@fffff"]),
+            ("missing", &["F"]),
+            ("missing", &["x"]),
+            ("load", &["C"]),
+            ("missing", &["C"]),
+        ],
+        false,
+        "using unknown zz\nusing cycle E\nload dropped 3\npassed\npassed\n\
+used\nran A@bbbbb 4\nused\nused\npassed\npassed\nload dropped 0\nused\n\
+summary\nview 0\nready A@bbbbb\nready S@aaaaa\nmissing C@aaaaa\nerror F@fffff\nerror P\nexecuted A@bbbbb 4\n",
+    ),
+];
+
 #[test]
 fn steps_by_hand(rt: HostRuntime) -> Result<(), Fail> {
     let alloc = rt.alloc();
-    let table: [(&[(&str, &[&str])], bool, &str); 4] = [
-        (&[], true, "summary\nview 0\n"),
-        (
-            &[("using", &["A"]), ("a()", &["A@aaaaa"])],
-            true,
-            "using ok\nused\nran A@aaaaa 3\n\
-summary\nview 0\nready A@aaaaa\nready S@aaaaa\nexecuted A@aaaaa 3\n",
-        ),
-        (
-            &[("load", &["P"]), ("p()", &["P@ppppp"])],
-            true,
-            "load dropped 0\nused\nran P@ppppp 3\n\
-summary\nview 0\nready P@ppppp\nexecuted P@ppppp 3\n",
-        ),
-        (
-            &[
-                ("using", &["A", "D"]),
-                ("using", &["E"]),
-                ("load", &["D", "A", "x", "F", "x"]),
-                ("c()", &["C@ccccc"]),
-                ("s()", &["S@sssss"]),
-                ("a();", &["A@bbbbb"]),
-                ("error", &["P"]),
-                ("f()", &["F@fffff"]),
-                ("missing", &["F"]),
-                ("missing", &["x"]),
-                ("load", &["C"]),
-                ("missing", &["C"]),
-            ],
-            false,
-            "using unknown zz\nusing cycle E\nload dropped 3\npassed\npassed\n\
-used\nran A@bbbbb 4\nused\nused\npassed\npassed\nload dropped 0\nused\n\
-summary\nview 0\nready A@bbbbb\nready S@aaaaa\nmissing C@aaaaa\nerror F@fffff\nerror P\nexecuted A@bbbbb 4\n",
-        ),
-    ];
-    for (played, ready, output) in table {
+    for (played, ready, output) in STEPS {
         let steps = steps(alloc, played)?;
         let driven = play(alloc, registry(alloc, &ROWS)?, steps.as_slice())?;
         assert_eq!(rt; driven.text.as_slice(), output.as_bytes());

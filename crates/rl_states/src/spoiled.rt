@@ -38,6 +38,7 @@ impl Spoiled {
         Ok(Spoiled { marks, rows })
     }
 
+    /// Whether a row cannot become ready.
     pub fn has(&self, row: u32) -> bool
         ensures { result ≡ is_marked self.now row }
     {

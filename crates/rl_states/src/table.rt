@@ -15,11 +15,17 @@ use std::marker::Model;
 #[derive(Drop)]
 pub struct Table {
     registry: Registry,
+
+    /// One for each row.
     standings: Vec<Standing>,
+
     users: Users,
     spoiled: Spoiled,
+
+    /// The rows that ran, in order, and for each whether it threw.
     log: Vec<u32>,
     threw: Vec<bool>,
+
     executing: Option<u32>,
 }
 
@@ -62,6 +68,7 @@ impl Table {
         })
     }
 
+    /// The registry, with the versions that rows have by now.
     pub fn registry(&self) -> &Registry
         ensures { result.now ≡ self.now.registered }
     {

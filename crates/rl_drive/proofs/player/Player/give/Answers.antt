@@ -1,22 +1,20 @@
 use Rattle.std.proofs.Common.{◌∙◌, ap, sym, Some, ℕ, length}
 use Rattle.std.specs.Prelude.{slice_set}
 use Rattle.std.proofs.lemmas.Result.{on_ok_weaker}
-use Rattle.rl_view_spec.specs.Closure.{Text}
 use Rattle.rl_drive.specs.Seen.{counting_row}
-use Rattle.rl_drive.specs.declared.content.Content.{Content}
 use Rattle.rl_drive.proofs.Parts.{give_passed, give_used}
 use Rattle.rl_drive.proofs.player.Player.give.Goals as goal
 
 pub returns-in_default : goal.returns-in_default
 returns-in_default c = on_ok_weaker c.write_line.result
     (λ text. give_passed c.args.key.now c.args.script.now c.args.self.now c.args.out.now.items c.write_line.new.out.items
-    (ap (counting_row c.args.self.now.table) (sym c.as_bytes.ensures.value) ∙ sym c.counting.ensures ∙ c.in_default.is) text)
+    (ap (counting_row c.args.self.now.table) (sym c.as_bytes.ensures.value) ∙ sym c.counting_row.ensures ∙ c.in_default.is) text)
     c.write_line.ensures
 
 pub returns : goal.returns
 returns c = on_ok_weaker c.write_line-2.result
     (λ text. give_used c.args.key.now c.args.script.now c.in-Some.row c.args.self.now _ c.args.out.now.items c.write_line-2.new.out.items
-    (ap (counting_row c.args.self.now.table) (sym c.as_bytes.ensures.value) ∙ sym c.counting.ensures ∙ c.in-Some.is)
+    (ap (counting_row c.args.self.now.table) (sym c.as_bytes.ensures.value) ∙ sym c.counting_row.ensures ∙ c.in-Some.is)
     c.outcome.ensures
     (ap (λ (len : ℕ). slice_set c.args.self.now.contents.items c.in-Some.row (record { version = Some c.args.key.now.version; script_len = len })) (ap length c.as_bytes-2.ensures))
     text)

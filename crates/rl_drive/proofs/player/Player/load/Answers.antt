@@ -1,4 +1,4 @@
-use Rattle.std.proofs.Common.{◌≡◌, ◌∙◌, ◌++◌, ap, append-nil, false, true, Bool, [], Ok, subst}
+use Rattle.std.proofs.Common.{◌∙◌, ◌++◌, ap, append-nil, false, true, Bool, [], Ok, subst}
 use Rattle.std.specs.Prelude.{codes, decimal}
 use Rattle.std.proofs.lemmas.Result.{on_ok_weaker}
 use Rattle.rl_view_spec.specs.Closure.{Text}

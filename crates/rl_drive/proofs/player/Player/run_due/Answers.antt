@@ -1,4 +1,3 @@
-use Rattle.std.proofs.Common.{◌≡◌}
 use Rattle.rl_drive.proofs.Dues.{dues_end, dues_next}
 use Rattle.rl_drive.proofs.Running.{left_ran, runs_begin}
 use Rattle.rl_drive.proofs.player.Player.run_due.Goals as goal
