@@ -8,7 +8,7 @@ use Rattle.rl_base.specs.Causes.{Rose, IsQuiet}
 use Rattle.rl_base.specs.Files.{Files}
 use Rattle.rl_names.specs.declared.counted.Counted.TheVariants as counted
 use Rattle.rl_view_spec.specs.Closure.{Text}
-use Rattle.rl_script_spec.specs.Script.{Verdict, Prints, TooMany, verdict_of}
+use Rattle.rl_script_spec.specs.Script.{Verdict, Prints}
 use Rattle.rl_script_spec.specs.Laws.{IsSound}
 use Rattle.rl_script_spec.proofs.Printed.{printed_holds}
 use Rattle.rl_cli.specs.Answers.{Answers, AnswersVerdict, IsUnreadStatus, IsLongStatus, IsLongFile, IsSilent, IsPrinted, IsUnreadFile, HoldsOfScript, Completes, verdict_on, status_of_verdict, status_of_file, expected_status}

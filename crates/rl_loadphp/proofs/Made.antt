@@ -1,19 +1,19 @@
 -- What a list of names brings, name by name.
 use Rattle.std.proofs.Common.{◌≡◌, ℕ, ◌+◌, ◌<◌, ◌≤◌, List, [], ◌∷◌, ◌++◌, length, get_or, take, codes, map, Option, Some, None, option_map, refl, sym, ap, ◌∙◌, subst}
-use Rattle.std.specs.List.{flat_map, filter_map, cons_option}
+use Rattle.std.specs.List.{flat_map, cons_option}
 use Rattle.std.specs.Option.{option_map_or}
 use Rattle.std.proofs.lemmas.List.{take_more, take_all, flat_map_more}
 use Rattle.std.proofs.lemmas.List.Concat.{flat_map-append}
 use Rattle.std.proofs.lemmas.List.Folds.{flat_map-map}
 use Rattle.rl_wire.specs.declared.part.Part.{Part}
-use Rattle.rl_wire.specs.Line.{line, part_text, implement_text, state_text, wire_text}
+use Rattle.rl_wire.specs.Line.{line, part_text, implement_text, wire_text}
 use Rattle.rl_names.specs.declared.part.Message.{Message}
 use Rattle.rl_defs.specs.Catalogue.{Catalogue}
 use Rattle.rl_build.specs.declared.context.Context.{Context}
 use Rattle.rl_build.specs.declared.payloads.Payload.{Payload}
 use Rattle.rl_build.specs.Payload.{payload_of, version_of}
 use Rattle.rl_loadphp.specs.Served.{payloads}
-use Rattle.rl_loadphp.specs.Body.{built, implementation_of, implementations, missing_part, states_text, scripts_text, styles_text}
+use Rattle.rl_loadphp.specs.Body.{built, implementations, missing_part, states_text, scripts_text, styles_text}
 use Rattle.rl_loadphp.specs.Steps.{line_of, version_in, script_of, styles_of}
 
 -- ---- one more name in front

@@ -1,7 +1,7 @@
 -- An answer is made of pieces that may be sent.
-use Rattle.std.proofs.Common.{◌≡◌, ◌≢◌, ◌⊎◌, ℕ, zero, suc, ◌<◌, Bool, true, false, cond, ◌&&◌, not, nat_lt, List, [], ◌∷◌, ◌++◌, length, map, codes, Option, Some, None, option_map, filter, bytes_eq, refl, sym, ap, ◌∙◌, subst, arith, append-nil}
+use Rattle.std.proofs.Common.{◌≡◌, ℕ, suc, Bool, true, false, cond, ◌&&◌, not, nat_lt, List, [], ◌∷◌, ◌++◌, length, codes, Option, Some, None, filter, bytes_eq, refl, sym, ap, ◌∙◌, subst, arith, append-nil}
 use Rattle.std.specs.Prelude.{Contains}
-use Rattle.std.specs.List.{AllByRecursion, flat_map, filter_map, cons_option}
+use Rattle.std.specs.List.{AllByRecursion, flat_map}
 use Rattle.std.specs.Option.{option_map_or}
 use Rattle.std.proofs.lemmas.Bool.{and_parts}
 use Rattle.std.proofs.lemmas.Bool.Decides.{nat_tests}
@@ -12,13 +12,12 @@ use Rattle.rl_names.specs.declared.query.Only.{Only}
 use Rattle.rl_names.specs.declared.query.Only.TheVariants.{All, Scripts, Styles}
 use Rattle.rl_wire.specs.Line.{line, part_text, state_text}
 use Rattle.rl_defs.specs.Catalogue.{Catalogue}
-use Rattle.rl_build.specs.declared.context.Context.{Context}
 use Rattle.rl_build.specs.declared.sheets.Sheet.{Sheet}
 use Rattle.rl_build.specs.declared.payloads.Payload.{Payload}
 use Rattle.rl_build.specs.Sheet.{sheet_of}
-use Rattle.rl_build.specs.Payload.{payload_of, version_of}
+use Rattle.rl_build.specs.Payload.{payload_of}
 use Rattle.rl_loadphp.specs.Served.{names_of, query_context, may_serve, is_served, served, missing}
-use Rattle.rl_loadphp.specs.Body.{body_of, built, states_text, scripts_text, styles_text}
+use Rattle.rl_loadphp.specs.Body.{body_of, built, states_text, scripts_text}
 use Rattle.rl_loadphp.specs.Sent.{MaySend, Piece, implementation, script, styles, state, IsMadeOfPieces}
 use Rattle.rl_loadphp.specs.Steps.{line_of, script_of, styles_of}
 use Rattle.rl_loadphp.proofs.Made.{wire-missing, scripts-payloads, styles-payloads}

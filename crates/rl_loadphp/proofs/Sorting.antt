@@ -1,5 +1,5 @@
 -- The names that are served and those that are not, and the answer over them.
-use Rattle.std.proofs.Common.{◌≡◌, ℕ, Bool, not, ◌==◌, nat_lt, List, [], ◌∷◌, length, filter, refl, sym, ap, ◌∙◌, arith}
+use Rattle.std.proofs.Common.{◌≡◌, ℕ, Bool, not, ◌==◌, nat_lt, List, [], ◌∷◌, length, filter, refl, ap, ◌∙◌, arith}
 use Rattle.std.proofs.lemmas.Bool.Decides.{nat_tests}
 use Rattle.rl_names.specs.declared.query.Query.{Query}
 use Rattle.rl_defs.specs.Catalogue.{Catalogue}

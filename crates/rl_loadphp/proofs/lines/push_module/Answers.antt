@@ -1,5 +1,5 @@
-use Rattle.std.proofs.Common.{◌≡◌, sym, ◌∙◌, rules}
-use Rattle.rl_build.specs.Payload.{payload_of, version_of}
+use Rattle.std.proofs.Common.{rules}
+use Rattle.rl_build.specs.Payload.{payload_of}
 use Rattle.rl_loadphp.proofs.Made.{line_built}
 use Rattle.rl_loadphp.proofs.lines.push_module.Goals as goal
 

@@ -1,9 +1,6 @@
 use Rattle.std.proofs.Common.{◌≡◌, ◌∙◌, List, ℕ, ap, sym, subst}
 use Rattle.rl_names.specs.Query.{query_of}
-use Rattle.rl_names.specs.declared.query.Query.{Query}
 use Rattle.rl_loadphp.specs.declared.answers.Answer.{Answer}
-use Rattle.rl_loadphp.specs.Served.{query_context, served, missing}
-use Rattle.rl_loadphp.specs.Body.{body_of}
 use Rattle.rl_loadphp.specs.Answer.{answer_to}
 use Rattle.rl_loadphp.specs.Sent.{IsMadeOfPieces}
 use Rattle.rl_loadphp.proofs.Pieces.{body_made}

@@ -1,4 +1,4 @@
-use Rattle.std.proofs.Common.{◌≡◌, ◌∙◌, List, ℕ, Bool, map, nat_lt, length, string_bytes, ap}
+use Rattle.std.proofs.Common.{◌≡◌, ◌∙◌, map, ap}
 use Rattle.rl_names.specs.Packing.{distinct, expand}
 use Rattle.rl_build.specs.Payload.{version_of}
 use Rattle.rl_loadphp.specs.Served.{names_of, query_context, served, missing, payloads}

@@ -1,4 +1,4 @@
-use Rattle.std.proofs.Common.{◌≡◌, ℕ, List, ◌++◌, filter, not}
+use Rattle.std.proofs.Common.{◌≡◌, ℕ, List, filter, not}
 use Rattle.rl_loadphp.specs.Served.{is_served}
 use Rattle.rl_loadphp.proofs.serving.sort_out.Given as goal
 

@@ -1,5 +1,4 @@
-use Rattle.std.proofs.Common.{◌≡◌, ◌++◌, List, ℕ, string_bytes, codes, sym, ap, ◌∙◌, append_assoc}
-use Rattle.std.specs.List.{flat_map}
+use Rattle.std.proofs.Common.{◌≡◌, ◌++◌, string_bytes, codes, sym, ap, ◌∙◌, append_assoc}
 use Rattle.rl_loadphp.specs.Body.{states_text, scripts_text}
 use Rattle.rl_loadphp.specs.Steps.{script_of}
 use Rattle.rl_loadphp.proofs.Made.{all_made, scripts-payloads}
