@@ -57,7 +57,7 @@ fn ended(rt: &HostRuntime, words: &[&str], status: Status) -> ExitCode {
         let report = Report {
             words,
             status,
-            breach: breach.as_ref(),
+            breach,
         };
         // Where standard error takes nothing either, the code still tells.
         let _ = eprintln!(rt; "loader: {report}");

@@ -1,6 +1,4 @@
-ghost use Rattle.std.specs.Prelude.{◌≡◌, Some, option_map};
-ghost use Rattle.std.specs.Borrow.{Bor};
-ghost use Rattle.rl_defs.specs.declared.error.CatalogError.{CatalogError as Breach};
+ghost use Rattle.std.specs.Prelude.{◌≡◌, Some};
 ghost use Rattle.std.specs.Fmt.{DisplaysOnOk};
 ghost use Rattle.rl_cli.specs.Told.{breach_line, fault_text, field_line, had_line, input_line, limit_of, named_line, rule_line, rule_of, word_at};
 ghost use Rattle.rl_cli.specs.Words.{texts};
@@ -12,13 +10,13 @@ use std::fmt;
 
 /// A status as a person reads it, in one line: what is wrong, and where. A rule that has a number is
 /// followed by it in parentheses.
-#[derive(Clone, Copy)]
+#[derive(Drop)]
 pub struct Report<'a> {
     /// The words of the call.
     pub words: &'a [&'a str],
     pub status: Status,
     /// The rule that definitions break, where it is known ([`breach_of`](crate::breach_of)).
-    pub breach: Option<&'a CatalogError>,
+    pub breach: Option<CatalogError>,
 }
 
 impl<'a> Report<'a> {
@@ -216,11 +214,11 @@ fn write_breach<W: fmt::Write>(
 fn write_input<W: fmt::Write>(
     f: &mut fmt::Formatter<W>,
     file: &str,
-    breach: Option<&CatalogError>,
+    breach: &Option<CatalogError>,
     line: u32,
     why: u32,
 ) -> fmt::Result
-    ensures { DisplaysOnOk W.write_str_gives f.old result (Some (input_line file.now (option_map (λ (b : Bor Breach). b.now) breach.entry) line why)) f.new }
+    ensures { DisplaysOnOk W.write_str_gives f.old result (Some (input_line file.now breach.now line why)) f.new }
 {
     match breach {
         Some(breach) => write_breach(f, file, breach, why),
@@ -229,13 +227,11 @@ fn write_input<W: fmt::Write>(
 }
 
 impl<'a> fmt::Display for Report<'a> {
-    ghost use Rattle.std.specs.Prelude.{Some, option_map};
-    ghost use Rattle.std.specs.Borrow.{Bor};
-    ghost use Rattle.rl_defs.specs.declared.error.CatalogError.{CatalogError as Breach};
+    ghost use Rattle.std.specs.Prelude.{Some};
     ghost use Rattle.rl_cli.specs.Told.{told_line};
     ghost use Rattle.rl_cli.specs.Words.{texts};
 
-    ghost output = { λ r. Some (told_line (texts r.words.now) r.status (option_map (λ (b : Bor Breach). b.now) r.breach)) };
+    ghost output = { λ r. Some (told_line (texts r.words.now) r.status r.breach) };
 
     fn fmt<W: fmt::Write>(&self, f: &mut fmt::Formatter<W>) -> fmt::Result {
         let file = self.word(1);
@@ -245,7 +241,7 @@ impl<'a> fmt::Display for Report<'a> {
                 "no command has these words; `loader --help` lists them",
             ),
             Status::BadInput { word, line, why } => {
-                write_input(f, self.word(word), self.breach, line, why)
+                write_input(f, self.word(word), &self.breach, line, why)
             }
             Status::TooLarge { what, count } => {
                 let limit = limit(what);

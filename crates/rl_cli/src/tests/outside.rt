@@ -200,7 +200,7 @@ fn line_of_definitions(alloc: Global, definitions: &str) -> Result<String, Fail>
     let report = Report {
         words: &words,
         status,
-        breach: breach.as_ref(),
+        breach,
     };
     Ok(format!(in alloc; "{report}")?)
 }
