@@ -2,9 +2,11 @@
 import os
 import subprocess
 import sys
+import tempfile
 import time
 
 TOP = os.path.dirname(os.path.dirname(os.path.abspath(__file__)))
+TIME = "/usr/bin/time"
 PROGRAM = os.environ.get("LOADER", os.path.join(TOP, "crates", "loader", "out", "loader"))
 
 
@@ -15,16 +17,27 @@ def need_program():
 
 
 def run(words, folder, repeats=3, program=PROGRAM):
-    """Runs the program, or another one. Gives the least time in seconds, the most memory in bytes, the output's length and the status."""
-    best, memory, length, status = None, 0, 0, 0
+    """Runs the program, or another one. Gives the least time in seconds, the peak memory in bytes, the output's length and the status."""
+    best, length, status = None, 0, 0
     for _ in range(repeats):
         begun = time.perf_counter()
-        child = subprocess.Popen([program, *words], cwd=folder, stdout=subprocess.PIPE, stderr=subprocess.DEVNULL)
-        output = child.stdout.read()
-        _, code, usage = os.wait4(child.pid, 0)
+        done = subprocess.run([program, *words], cwd=folder, stdout=subprocess.PIPE, stderr=subprocess.DEVNULL)
         spent = time.perf_counter() - begun
-        child.returncode = os.waitstatus_to_exitcode(code)
         best = spent if best is None else min(best, spent)
-        memory = max(memory, usage.ru_maxrss * 1024)
-        length, status = len(output), child.returncode
-    return best, memory, length, status
+        length, status = len(done.stdout), done.returncode
+    return best, peak_memory(words, folder, program), length, status
+
+
+def peak_memory(words, folder, program):
+    """The peak memory of one more run, in bytes; 0 where GNU time is not there to tell it.
+
+    A child of this script would be told with the memory of Python itself, from which it is forked.
+    """
+    if not os.access(TIME, os.X_OK):
+        return 0
+    with tempfile.NamedTemporaryFile("r") as report:
+        subprocess.run(
+            [TIME, "-q", "-f", "%M", "-o", report.name, program, *words],
+            cwd=folder, stdout=subprocess.DEVNULL, stderr=subprocess.DEVNULL,
+        )
+        return int(report.read().split()[-1]) * 1024
