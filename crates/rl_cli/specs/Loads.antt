@@ -1,5 +1,7 @@
 -- What `load` makes of definitions and a query.
-use Rattle.std.specs.Prelude.{◌≡◌, true, List, Option, Some, Result, Ok, Err}
+use Rattle.std.specs.Prelude.{◌≡◌, ◌≤◌, ℕ, true, List, length, Option, Some, IfSome, IsOk, Result, Ok, Err}
+use Rattle.std.specs.FinMap as map
+use Rattle.rl_base.specs.Causes.{IsQuiet}
 use Rattle.rl_base.specs.Files.{Files}
 use Rattle.rl_names.specs.declared.counted.Counted.TheVariants as counted
 use Rattle.rl_view_spec.specs.Closure.{Text}
@@ -12,7 +14,7 @@ use Rattle.rl_loadphp.specs.Answer.{answer_of}
 use Rattle.rl_loadphp.specs.declared.answers.Answer.{Answer}
 use Rattle.rl_loadphp.specs.declared.answers.AnswerError.{AnswerError}
 use Rattle.rl_loadphp.specs.declared.answers.AnswerError.TheVariants as refusals
-use Rattle.rl_cli.specs.Files.{IsFile}
+use Rattle.rl_cli.specs.Files.{IsFile, max_file}
 use Rattle.rl_cli.specs.Words.{Load, command_of}
 use Rattle.rl_cli.specs.declared.load.LoadError.{LoadError}
 use Rattle.rl_cli.specs.declared.load.LoadError.TheVariants as errors
@@ -59,3 +61,9 @@ Loads (Err errors.NoMemory) verdict = Unit {0}
 -- the definitions that the words name are refused for this breach
 abbrev pub Breaks : Option Files → List Text → CatalogError → Type 0
 Breaks told words breach = (definitions query bytes : Text) × (command_of words ≡ Some (Load definitions query)) × IsFile told definitions bytes × (reading bytes ≡ Err breach)
+
+-- the tree tells the definitions that the words name, no fault rose, and they break no rule
+abbrev pub BreaksNone : Option Files → List Text → ℕ → ℕ → Type 0
+BreaksNone told words faults faults' =
+    IfSome told (λ files. IsQuiet faults faults' → (definitions query bytes : Text) → command_of words ≡ Some (Load definitions query)
+    → map.get files definitions ≡ Some bytes → length bytes ≤ max_file → IsOk (reading bytes))
