@@ -1,14 +1,14 @@
-pub mod Ascii
-pub mod CutLaw
-pub mod CountLaw
-pub mod NameLaw
-pub mod KeyLaw
-pub mod PackingLaw
-pub mod GroupsLaw
-pub mod QueryLaw
-pub mod QueryAgain
-pub mod QueryWritten
-pub mod SpacingLaw
-pub mod TitleLaw
-pub mod TitleAgain
+pub mod AsciiLemmas
+pub mod CutLemmas
+pub mod CountingLemmas
+pub mod NameLemmas
+pub mod KeyLemmas
+pub mod PackingLemmas
+pub mod GroupingLemmas
+pub mod QueryLemmas
+pub mod QueryAgainLemmas
+pub mod QueryWrittenLemmas
+pub mod SpacingLemmas
+pub mod TitleLemmas
+pub mod TitleAgainLemmas
 mod Worked

@@ -7,13 +7,11 @@ use Rattle.form_urlencoded.specs.Form.{raw_pairs, split, byte_serialize}
 use Rattle.percent_encoding.specs.Percent.{percent_decode, percent_encode_byte}
 use lib.Utf8.{encode}
 use Rattle.rl_names.specs.Hash.{hash_5, combined}
-use Rattle.rl_names.specs.Key.{key_of}
-use Rattle.rl_names.specs.Name.{name_fault}
+use Rattle.rl_names.specs.Key.{key_of, NoVersion, BadVersion, BadName}
+use Rattle.rl_names.specs.Name.{name_fault, Empty, TooLong, BadByte, LeadingDot}
 use Rattle.rl_names.specs.Packing.{pack, packed_order, expand}
 use Rattle.rl_names.specs.Query.{query_of, query_text}
 use Rattle.rl_names.specs.Title.{title_of, user_name_of}
-use Rattle.rl_names.specs.declared.name.NameError.TheVariants.{Empty, TooLong, BadByte, LeadingDot}
-use Rattle.rl_names.specs.declared.name.KeyError.TheVariants.{NoVersion, BadVersion, BadName}
 
 -- ---- names
 
@@ -78,7 +76,8 @@ combined_versions = refl
 
 -- ---- packed lists
 
-five_names : pack (codes "foo.bar" ∷ codes "foo.baz" ∷ codes "bar.baz" ∷ codes "bar.quux" ∷ codes "jquery" ∷ []) ≡ codes "foo.bar,baz|bar.baz,quux|jquery"
+five_names : pack (codes "foo.bar" ∷ codes "foo.baz" ∷ codes "bar.baz" ∷ codes "bar.quux" ∷ codes "jquery" ∷ [])
+    ≡ codes "foo.bar,baz|bar.baz,quux|jquery"
 five_names = refl
 
 abbrev four : List (List ℕ)

@@ -3,9 +3,12 @@ pub mod Cut
 pub mod Grouping
 pub mod Hash
 pub mod Key
+pub mod Limits
+pub mod Meant
 pub mod Name
 pub mod Packing
 pub mod Query
 pub mod QuerySteps
+pub mod Rules
 pub mod Spacing
 pub mod Title

@@ -1,5 +1,7 @@
 -- The parameters of a request for modules, read from a web form and written as one.
-use Rattle.std.specs.Prelude.{◌≡◌, ℕ, ◌+◌, Bool, ◌||◌, nat_lt, if◌then◌else◌, List, [], ◌∷◌, length, filter, fold, bytes_eq, codes, IsUtf8}
+use Rattle.std.specs.Prelude.{◌≡◌, ℕ, ◌+◌, Bool, ◌||◌, nat_lt, if◌then◌else◌, List, [], ◌∷◌, length, map, filter, None, unwrap_or}
+use Rattle.std.specs.Prelude.{bytes_eq, codes, IsUtf8}
+use Rattle.std.specs.List.{last_or}
 use Rattle.std.specs.Str.Lossy.{utf8_lossy}
 use Rattle.form_urlencoded.specs.Form as form
 use Rattle.rl_names.specs.declared.query.Only.{Only}
@@ -12,13 +14,13 @@ use Rattle.rl_names.specs.declared.query.Query.{Query}
 abbrev pub decoded : List ℕ → List ℕ
 decoded bytes = utf8_lossy (form.decode bytes)
 
--- the value of this pair where it has the name, else what was found before
-abbrev pub later_value : List ℕ → List ℕ → List ℕ × List ℕ → List ℕ
-later_value name found pair = if bytes_eq (decoded pair.0) name then decoded pair.1 else found
+-- the values under a name, in the order of the form
+abbrev pub values_of : List ℕ → List ℕ → List (List ℕ)
+values_of input name = map (λ pair. decoded pair.1) (filter (λ pair. bytes_eq (decoded pair.0) name) (form.raw_pairs input))
 
 -- the last value under a name; without one, the empty text
 abbrev pub last_value : List ℕ → List ℕ → List ℕ
-last_value input name = fold (later_value name) [] (form.raw_pairs input)
+last_value input name = unwrap_or (last_or None (values_of input name)) []
 
 abbrev pub is_on : List ℕ → Bool
 is_on value = bytes_eq value (codes "true") || bytes_eq value (codes "1") || bytes_eq value (codes "2")

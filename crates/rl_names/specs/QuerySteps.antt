@@ -5,6 +5,10 @@ use Rattle.rl_names.specs.declared.query.Only.TheVariants.{All}
 use Rattle.rl_names.specs.declared.query.Query.{Query}
 use Rattle.rl_names.specs.Query.{decoded, is_on, only_of}
 
+-- the value of this pair where it has the name, else what was found before
+abbrev pub later_value : List ℕ → List ℕ → List ℕ × List ℕ → List ℕ
+later_value name found pair = if bytes_eq (decoded pair.0) name then decoded pair.1 else found
+
 abbrev pub no_query : Query
 no_query = record { modules = []; lang = []; skin = []; debug = false; only = All; user = []; version = [] }
 

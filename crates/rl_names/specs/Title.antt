@@ -1,11 +1,12 @@
 -- The titles of pages and the names of users.
-use Rattle.std.specs.Prelude.{◌≡◌, ℕ, ◌&&◌, ◌||◌, ◌==◌, ◌∷◌, [], if◌then◌else◌, List, Bool, true, false, not, nat_le, length, filter, flat_map, Option, Some, None, Result, Ok, Err}
+use Rattle.std.specs.Prelude.{ℕ, ◌&&◌, ◌||◌, ◌==◌, ◌∷◌, [], if◌then◌else◌, List, Bool, true, false, not, nat_le, length, filter}
+use Rattle.std.specs.Prelude.{flat_map, Option, Some, None}
 use Rattle.std.specs.List.{join_with_byte, list_all, list_any, slice_split}
 use Rattle.std.specs.Str.{is_utf8}
 use Rattle.rl_names.specs.declared.title.TitleError.{TitleError}
-use Rattle.rl_names.specs.declared.title.TitleError.TheVariants.{BadTitle, NoMemory}
+use Rattle.rl_names.specs.declared.title.TitleError.TheVariants as errors
 use Rattle.rl_names.specs.declared.user_name.UserNameError.{UserNameError}
-use Rattle.rl_names.specs.declared.user_name.UserNameError.TheVariants as user_error
+use Rattle.rl_names.specs.declared.user_name.UserNameError.TheVariants as user_errors
 
 abbrev pub is_space : ℕ → Bool
 is_space b = b == 32
@@ -46,13 +47,12 @@ title_of bytes = if is_utf8 bytes && is_title (spaced bytes) then Some (spaced b
 abbrev pub user_name_of : List ℕ → Option (List ℕ)
 user_name_of bytes = if is_utf8 bytes && is_user_name (spaced bytes) then Some (spaced bytes) else None
 
--- a reading answers with what is spelt; want of memory may come in its place
-abbrev pub ReadsTitle : Result (List ℕ) TitleError → Option (List ℕ) → Type 0
-ReadsTitle (Ok title) spelt = spelt ≡ Some title
-ReadsTitle (Err BadTitle) spelt = spelt ≡ None
-ReadsTitle (Err NoMemory) spelt = Unit {0}
+-- whether an error says that bytes spell no title; want of memory does not
+abbrev pub no_title_told : TitleError → Option (Unit {0})
+no_title_told errors.BadTitle = Some tt
+no_title_told errors.NoMemory = None
 
-abbrev pub ReadsUserName : Result (List ℕ) UserNameError → Option (List ℕ) → Type 0
-ReadsUserName (Ok name) spelt = spelt ≡ Some name
-ReadsUserName (Err user_error.BadUserName) spelt = spelt ≡ None
-ReadsUserName (Err user_error.NoMemory) spelt = Unit {0}
+-- whether an error says that bytes spell no user name; want of memory does not
+abbrev pub no_user_name_told : UserNameError → Option (Unit {0})
+no_user_name_told user_errors.BadUserName = Some tt
+no_user_name_told user_errors.NoMemory = None

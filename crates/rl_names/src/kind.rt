@@ -1,3 +1,4 @@
+//! What a state line says.
 /// What a state line says of a module that is not served.
 #[derive(Clone, Copy, Debug, PartialEq, Eq)]
 pub enum StateKind {

@@ -1,9 +1,12 @@
-ghost use Rattle.std.specs.Prelude.{◌≡◌, ◌↔◌, ◌++◌, not, position, IfOk, OnOk, IfSome, IfNone, IsSome, IsTrue, drop, string_bytes, false};
+//! Names of modules, versions, and keys, which are both.
+ghost use Rattle.std.specs.Prelude.{◌≡◌, ◌↔◌, ◌++◌, not, position, IfOk, OnOk, option_and_then, IfSome, IfNone, IsSome, IsTrue, drop};
+ghost use Rattle.std.specs.Prelude.{string_bytes, false};
 ghost use Rattle.std.specs.List.{list_all, list_any};
 ghost use Rattle.std.specs.Str.{IsAscii};
 ghost use Rattle.std.specs.Ordering.{nat_cmp};
 ghost use Rattle.std.specs.Cmp.Lexicographic.{slice_cmp};
-ghost use Rattle.rl_names.specs.Name.{is_name, is_name_byte, is_version, is_version_byte, key_text, name_fault, ReadsName};
+ghost use Rattle.rl_names.specs.Meant.{Gives};
+ghost use Rattle.rl_names.specs.Name.{is_name, is_name_byte, is_version, is_version_byte, key_text, name_fault, fault_told, name_of};
 
 use crate::text::{NoMemory, Text};
 use std::alloc::{AllocError, Global};
@@ -89,7 +92,8 @@ fn bad_byte(bytes: &[u8]) -> Option<usize>
 
 /// Why the bytes are no name, if they are none.
 fn fault_of(bytes: &[u8]) -> Option<NameError>
-    ensures { result ≡ name_fault bytes.now }
+    ensures fault { option_and_then fault_told result ≡ name_fault bytes.now }
+    ensures told { IfSome result (λ error. IsSome (fault_told error)) }
 {
     if bytes.is_empty() {
         return Some(NameError::Empty);
@@ -111,7 +115,7 @@ impl Name {
 
     /// Reads a name. Of the faults, the first in their order is told.
     pub fn read(alloc: Global, bytes: &[u8]) -> Result<Name, NameError>
-        ensures answer { ReadsName result bytes.now }
+        ensures answer { Gives fault_told result (name_of bytes.now) }
 
         // The names are the bytes with no fault.
         ensures faultless { NamesAreFaultless }
@@ -316,7 +320,8 @@ ghost use Rattle.rl_names.specs.Key.{is_at};
 
 /// What stands before and after the last `@`; none where there is none past the first place.
 fn halves(bytes: &[u8]) -> Option<(&[u8], &[u8])>
-    ensures found { IfSome result (λ parts. IsTrue (list_any is_at (drop 1 bytes.now)) × (parts.0.now ≡ before_by is_at bytes.now) × (parts.1.now ≡ suffix_by is_at bytes.now)) }
+    ensures found { IfSome result (λ parts. IsTrue (list_any is_at (drop 1 bytes.now))
+        × (parts.0.now ≡ before_by is_at bytes.now) × (parts.1.now ≡ suffix_by is_at bytes.now)) }
     ensures none { IfNone result (list_any is_at (drop 1 bytes.now) ≡ false) }
 {
     'places: for at in (1..bytes.len()).rev() {
@@ -328,11 +333,11 @@ fn halves(bytes: &[u8]) -> Option<(&[u8], &[u8])>
 }
 
 impl Key {
-    ghost use Rattle.rl_names.specs.Key.{key_of, Splits, KeyTexts};
+    ghost use Rattle.rl_names.specs.Key.{key_of, key_fault_told, KeyTexts};
 
     /// Splits a key text at its last `@`. One in front is a byte of the name.
     pub fn split(alloc: Global, bytes: &[u8]) -> Result<Key, KeyError>
-        ensures answer { Splits result (key_of bytes.now) }
+        ensures answer { Gives key_fault_told result (key_of bytes.now) }
 
         // The keys are what the key texts spell.
         ensures texts { KeyTexts }

@@ -1,12 +1,14 @@
 //! Lists of names in one text: names with the same front, which ends at the last dot, share it.
-ghost use Rattle.std.specs.Prelude.{◌≡◌, ℕ, List, ◌==◌, ◌<◌, ◌≤◌, ◌++◌, map, length, cond, if◌then◌else◌, codes, [], IfOk, OnOk, Option, Some, unwrap_or, string_bytes, vec_len, bytes_eq};
+ghost use Rattle.std.specs.Prelude.{◌≡◌, ℕ, List, ◌==◌, ◌<◌, ◌++◌, map, length, cond, if◌then◌else◌, codes, [], IfOk, OnOk, Some};
+ghost use Rattle.std.specs.Prelude.{unwrap_or, string_bytes, bytes_eq};
 ghost use Rattle.std.specs.Ordering.{nat_cmp};
 ghost use Rattle.std.specs.Cmp.Lexicographic.{slice_cmp};
 ghost use Rattle.std.specs.BTreeMap.{get_by};
 ghost use Rattle.std.specs.List.{join_with_byte, slice_split};
 ghost use Rattle.rl_names.specs.Counting.{divides_pieces};
 ghost use Rattle.rl_names.specs.Grouping.{group_written, put_at};
-ghost use Rattle.rl_names.specs.Packing.{distinct as distinct_of, expand as expand_of, expand_group, front_of, suffix_of, fronts as fronts_of, group_of, pack as pack_of, packed_order as packed_order_of, AreNames};
+ghost use Rattle.rl_names.specs.Packing.{distinct as distinct_of, expand as expand_of, expand_group, front_of, suffix_of, fronts as fronts_of, group_of};
+ghost use Rattle.rl_names.specs.Packing.{pack as pack_of, packed_order as packed_order_of, AreNames};
 
 use crate::name::Name;
 use crate::text::{NoMemory, Text};
@@ -45,7 +47,8 @@ fn place_of<'a>(
     next: usize,
 ) -> Result<usize, NoMemory>
     ensures place { IfOk result (λ place. place ≡ unwrap_or (get_by (λ k. slice_cmp nat_cmp front.now k.now) places.old) next) }
-    ensures noted { IfOk result (λ place. (q : List ℕ) → get_by (λ k. slice_cmp nat_cmp q k.now) places.new ≡ cond (bytes_eq front.now q) (Some place) (get_by (λ k. slice_cmp nat_cmp q k.now) places.old)) }
+    ensures noted { IfOk result (λ place. (q : List ℕ) → get_by (λ k. slice_cmp nat_cmp q k.now) places.new
+        ≡ cond (bytes_eq front.now q) (Some place) (get_by (λ k. slice_cmp nat_cmp q k.now) places.old)) }
 {
     if let Some(place) = places.get(front) {
         return Ok(*place);
@@ -61,7 +64,8 @@ fn put<'a>(
     place: usize,
     name: &'a Name,
 ) -> Result<(), NoMemory>
-    ensures { OnOk result (map (λ group. map (λ n. n.now) group.items) groups.new.items ≡ put_at (map (λ group. map (λ n. n.now) group.items) groups.old.items) place name.now) }
+    ensures { OnOk result (map (λ group. map (λ n. n.now) group.items) groups.new.items
+        ≡ put_at (map (λ group. map (λ n. n.now) group.items) groups.old.items) place name.now) }
 {
     if place < groups.len() {
         groups[place].push(name)?;

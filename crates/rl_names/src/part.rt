@@ -1,3 +1,4 @@
+//! What parts and startup texts are made of besides names.
 use crate::text::Text;
 
 /// A text of the interface under its key.

@@ -1,3 +1,4 @@
+//! Texts and bytes that are owned, lists of them, and want of memory.
 ghost use Rattle.std.specs.Prelude.{◌≡◌, ◌↔◌, [], IfOk, IsTrue};
 
 use std::alloc::{AllocError, AllocFailed, Allocator, Global};

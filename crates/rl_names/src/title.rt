@@ -1,10 +1,11 @@
 //! The titles of pages. No letter changes its case.
-ghost use Rattle.std.specs.Prelude.{◌≡◌, ◌==◌, IfOk, OnOk, fold, string_bytes};
+ghost use Rattle.std.specs.Prelude.{◌≡◌, IfOk, OnOk, fold, string_bytes};
 ghost use Rattle.std.specs.List.{list_all, slice_split};
 ghost use Rattle.rl_names.specs.Spacing.{with_word};
 ghost use Rattle.rl_names.specs.Title.{is_space, is_title, is_title_byte, spaced as spaced_of};
 
 use crate::packing::pieces;
+use crate::text::NoMemory;
 use std::alloc::{AllocError, Global};
 use std::marker::Model;
 use std::str;
@@ -51,11 +52,12 @@ impl Model for Title {
 
 impl Title {
     ghost use Rattle.std.specs.Prelude.{IsTrue, Some};
-    ghost use Rattle.rl_names.specs.Title.{title_of, ReadsTitle};
+    ghost use Rattle.rl_names.specs.Meant.{Reads};
+    ghost use Rattle.rl_names.specs.Title.{title_of, no_title_told};
 
     /// Reads a title. An underscore is a space, runs of spaces become one, and those at both ends are dropped.
     pub fn read(alloc: Global, bytes: &[u8]) -> Result<Title, TitleError>
-        ensures { ReadsTitle result (title_of bytes.now) }
+        ensures { Reads no_title_told result (title_of bytes.now) }
     {
         let Ok(text) = str::from_utf8(bytes) else {
             return Err(TitleError::BadTitle);
@@ -76,6 +78,20 @@ impl Title {
         ensures again { title_of self.now ≡ Some self.now }
     {
         self.text.as_bytes()
+    }
+
+    pub fn as_str(&self) -> &str
+        ensures { result.now ≡ self.now }
+    {
+        self.text.as_str()
+    }
+
+    /// The same title once more.
+    pub fn copy(&self) -> Result<Title, NoMemory>
+        ensures { IfOk result (λ t. t ≡ self.now) }
+    {
+        let text = self.text.clone()?;
+        Ok(Title { text })
     }
 }
 

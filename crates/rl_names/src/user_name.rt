@@ -49,12 +49,13 @@ impl Model for UserName {
 
 impl UserName {
     ghost use Rattle.std.specs.Prelude.{IsTrue, Some, string_bytes};
-    ghost use Rattle.rl_names.specs.Title.{user_name_of, ReadsUserName};
+    ghost use Rattle.rl_names.specs.Meant.{Reads};
+    ghost use Rattle.rl_names.specs.Title.{user_name_of, no_user_name_told};
 
     /// Reads a user name, as a title is read. No bytes at all are no name: they stand for nobody, and a caller who
     /// takes nobody asks for that first.
     pub fn read(alloc: Global, bytes: &[u8]) -> Result<UserName, UserNameError>
-        ensures { ReadsUserName result (user_name_of bytes.now) }
+        ensures { Reads no_user_name_told result (user_name_of bytes.now) }
     {
         let Ok(text) = str::from_utf8(bytes) else {
             return Err(UserNameError::BadUserName);

@@ -5,7 +5,7 @@ use Rattle.std.proofs.lemmas.List.{take_more}
 use Rattle.std.proofs.lemmas.Map.Text.{is_eq-slice_cmp}
 use Rattle.std.proofs.lemmas.Grind.{common_steps}
 use Rattle.rl_names.specs.Packing.{distinct}
-use Rattle.rl_names.proofs.GroupsLaw.{distinct_push, has, has_more}
+use Rattle.rl_names.proofs.GroupingLemmas.{distinct_push, has, has_more}
 use Rattle.rl_names.proofs.packing.distinct.Goals as goal
 use Rattle.rl_names.proofs.packing.distinct.Goals.{then-branch+in_ok-copy+in_ok-push, else-branch}
 
@@ -17,7 +17,8 @@ texts-preserved c =
     let done = take i xs in
     let grown : take (i + 1) xs ≡ done ++ y ∷ [] = take_more xs i y c.texts-test.true ∙ ap (λ z. done ++ z ∷ []) (sym c.text-item.is) in
     let text : c.as_str.result.now ≡ y = c.as_str.ensures in
-    let added : c.in_ok-insert.field-0 ≡ not (has y done) = c.in_ok-insert.ensures.added ∙ ap not (c.texts.invariant.seen c.as_str.result.now) ∙ ap (λ t. not (has t done)) text in
+    let added : c.in_ok-insert.field-0 ≡ not (has y done) = c.in_ok-insert.ensures.added ∙ ap not (c.texts.invariant.seen c.as_str.result.now)
+    ∙ ap (λ t. not (has t done)) text in
     let after : distinct (take (i + 1) xs) ≡ cond (has y done) (distinct done) (distinct done ++ y ∷ []) = ap distinct grown ∙ distinct_push done y in
     record {
       kept = rw after

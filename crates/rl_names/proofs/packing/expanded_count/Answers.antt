@@ -1,6 +1,6 @@
 use Rattle.std.proofs.Common.{◌≡◌, arith, drop, ap, sym, ◌∙◌}
 use Rattle.rl_names.specs.Counting.{piece_count}
-use Rattle.rl_names.proofs.CountLaw.{pieces_counted}
+use Rattle.rl_names.proofs.CountingLemmas.{pieces_counted}
 use Rattle.rl_names.proofs.packing.expanded_count.Goals as goal
 
 pub returns : goal.returns

@@ -2,7 +2,7 @@ use Rattle.std.proofs.Common.{◌≡◌, ◌+◌, ◌++◌, [], ◌∷◌, take,
 use Rattle.std.proofs.lemmas.List.{take_more}
 use Rattle.std.proofs.lemmas.Grind.{flat_map-append}
 use Rattle.std.proofs.lemmas.List.{take_all}
-use Rattle.rl_names.proofs.GroupsLaw.{groups_order}
+use Rattle.rl_names.proofs.GroupingLemmas.{groups_order}
 use Rattle.rl_names.proofs.packing.packed_order.Goals as goal
 
 pub groups-preserved : goal.groups-preserved
@@ -21,5 +21,6 @@ groups-preserved c =
 pub returns : goal.returns
 returns c =
     c.groups.invariant
-    ∙ ap (flat_map (λ group. map (λ n. n.now) group.items)) (take_all c.groups.group-index c.deref-group-items.result.now c.groups-test.false ∙ c.deref-group-items.ensures.value)
+    ∙ ap (flat_map (λ group. map (λ n. n.now) group.items))
+    (take_all c.groups.group-index c.deref-group-items.result.now c.groups-test.false ∙ c.deref-group-items.ensures.value)
     ∙ groups_order (λ group. map (λ n. n.now) group.items) c.in_ok-groups.groups.items c.args.names.now c.in_ok-groups.ensures.grouped

@@ -1,8 +1,9 @@
-use Rattle.std.proofs.Common.{◌≡◌, ◌+◌, ◌++◌, [], ◌∷◌, ◌==◌, ◌≤◌, length, take, map, cond, ap, sym, ◌∙◌, arith, string_bytes, append_assoc}
+use Rattle.std.proofs.Common.{◌≡◌, ◌+◌, ◌++◌, [], ◌∷◌, ◌==◌, ◌≤◌, length, take, map, cond, ap, sym, ◌∙◌, arith}
+use Rattle.std.proofs.Common.{string_bytes, append_assoc}
 use Rattle.std.proofs.lemmas.List.{take_more, map-append, length-map, length-take-le}
 use Rattle.rl_names.specs.Grouping.{group_written}
 use Rattle.rl_names.specs.Packing.{front_of, suffix_of}
-use Rattle.rl_names.proofs.GroupsLaw.{written_more}
+use Rattle.rl_names.proofs.GroupingLemmas.{written_more}
 use Rattle.rl_names.proofs.packing.push_group.Goals as goal
 
 pub names-preserved : goal.names-preserved
@@ -12,7 +13,8 @@ names-preserved c =
     let y = c.index-group-i.result in
     let done = map (λ n. n.now) (take i xs) in
     let grown : map (λ n. n.now) (take (i + 1) xs) ≡ done ++ y.now ∷ [] =
-    ap (map (λ n. n.now)) (take_more xs i y c.names-test.true ∙ ap (λ z. take i xs ++ z ∷ []) (sym c.index-group-i.is)) ∙ map-append (λ n. n.now) (take i xs) (y ∷ []) in
+    ap (map (λ n. n.now)) (take_more xs i y c.names-test.true ∙ ap (λ z. take i xs ++ z ∷ []) (sym c.index-group-i.is))
+    ∙ map-append (λ n. n.now) (take i xs) (y ∷ []) in
     let within : i ≤ length xs = omega arith in
     let at : length done ≡ i = length-map (take i xs) (λ n. n.now) ∙ length-take-le i xs within in
     let front : c.cut.result.0.now ≡ front_of y.now = c.cut.ensures.front ∙ ap front_of c.as_str.ensures in

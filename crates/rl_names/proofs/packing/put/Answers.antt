@@ -1,6 +1,6 @@
 use Rattle.std.proofs.Common.{◌++◌, ◌∷◌, [], map, rules, ap, ◌∙◌}
 use Rattle.std.proofs.lemmas.List.{map-append}
-use Rattle.rl_names.proofs.GroupsLaw.{put_within, put_behind}
+use Rattle.rl_names.proofs.GroupingLemmas.{put_within, put_behind}
 use Rattle.rl_names.proofs.packing.put.Goals as goal
 
 pub returns-then-place-len : goal.returns-then-place-len

@@ -3,7 +3,7 @@ use Rattle.std.proofs.Common.{arith, take, map}
 use Rattle.std.specs.Prelude.{flat_map}
 use Rattle.std.specs.List.{slice_split}
 use Rattle.rl_names.specs.Title.{is_space}
-use Rattle.rl_names.proofs.SpacingLaw.{joined}
+use Rattle.rl_names.proofs.SpacingLemmas.{joined}
 use Rattle.rl_names.proofs.title.spaced.Goals as goal
 
 pub returns : goal.returns

@@ -1,4 +1,4 @@
-use Rattle.rl_names.proofs.QueryWritten.{again}
+use Rattle.rl_names.proofs.QueryWrittenLemmas.{again}
 use Rattle.rl_names.proofs.query.Query.write.Goals as goal
 
 pub returns-clause-again : goal.returns-clause-again

@@ -1,12 +1,12 @@
 use Rattle.std.proofs.Common.{ap, sym, ◌∙◌}
 use Rattle.std.proofs.lemmas.Str.{IsUtf8-string_bytes}
 use Rattle.rl_names.specs.Title.{spaced, is_title}
-use Rattle.rl_names.proofs.TitleAgain.{title_again}
-use Rattle.rl_names.proofs.TitleLaw.{no_title, title_spelt}
+use Rattle.rl_names.proofs.TitleAgainLemmas.{title_again}
+use Rattle.rl_names.proofs.TitleLemmas.{no_title, title_spelt}
 use Rattle.rl_names.proofs.title.Title.read.Goals as goal
 
 pub returns-in_default : goal.returns-in_default
-returns-in_default c = no_title c.args.bytes.now c.in_default.ensures.cases.0
+returns-in_default c refusal told = no_title c.args.bytes.now c.in_default.ensures.cases.0
 
 pub returns-then-is_title : goal.returns-then-is_title
 returns-then-is_title c = title_spelt c.args.bytes.now c.in_ok-text.text.bytes.items c.in-Ok.ensures.cases.1

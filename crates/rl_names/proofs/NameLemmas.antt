@@ -1,11 +1,10 @@
 -- What has no fault is a name, and nothing else.
-use Rattle.std.proofs.Common.{◌≡◌, ◌↔◌, ℕ, zero, suc, ◌+◌, Bool, true, false, ◌&&◌, not, cond, nat_lt, nat_le, ◌==◌, Some, None, List, [], ◌∷◌, length, get_or, refl, arith, IsTrue}
+use Rattle.std.proofs.Common.{◌≡◌, ◌↔◌, ℕ, zero, suc, ◌+◌, Bool, true, false, ◌&&◌, not, cond, nat_lt, nat_le, ◌==◌, Some, None, List}
+use Rattle.std.proofs.Common.{[], ◌∷◌, length, get_or, refl, arith, IsTrue}
 use Rattle.std.proofs.lemmas.Bool.{false_from_ne_true}
 use Rattle.std.specs.List.{list_all, position_or_len}
 use Rattle.std.specs.Option.{option_map_or}
-use Rattle.rl_names.specs.declared.name.NameError.{NameError}
-use Rattle.rl_names.specs.declared.name.NameError.TheVariants.{Empty, TooLong, BadByte, LeadingDot}
-use Rattle.rl_names.specs.Name.{is_name, is_name_byte, name_fault, NamesAreFaultless}
+use Rattle.rl_names.specs.Name.{is_name, is_name_byte, name_fault, NameFault, Empty, TooLong, BadByte, LeadingDot, NamesAreFaultless}
 
 one_more : (m n : ℕ) → nat_lt (1 + m) (suc n) ≡ nat_lt m n
 one_more m n = grind arith
@@ -21,7 +20,8 @@ place_or_all p (x ∷ xs) =
 
 -- the four tests, told apart from each other
 told : (n at : ℕ) (none many all dot : Bool)
-    → (cond none (Some Empty) (cond many (Some (TooLong n)) (option_map_or (λ k. Some (BadByte k)) (cond (not all) (Some at) None) (cond dot (Some LeadingDot) None))) ≡ None)
+    → (cond none (Some Empty) (cond many (Some (TooLong n))
+    (option_map_or (λ k. Some (BadByte k)) (cond (not all) (Some at) None) (cond dot (Some LeadingDot) None))) ≡ None)
     ↔ ((not none && not many && all && not dot) ≡ true)
 told n at true many all dot = (λ e. absurd (cc), λ e. absurd (cc))
 told n at false true all dot = (λ e. absurd (cc), λ e. absurd (cc))
@@ -48,6 +48,6 @@ names_are_faultless bytes =
 pub faultless_name : (bytes : List ℕ) → name_fault bytes ≡ None → IsTrue (is_name bytes)
 faultless_name bytes h = (names_are_faultless bytes).0 h
 
-pub faulty_name : (bytes : List ℕ) (e : NameError) → name_fault bytes ≡ Some e → is_name bytes ≡ false
+pub faulty_name : (bytes : List ℕ) (e : NameFault) → name_fault bytes ≡ Some e → is_name bytes ≡ false
 faulty_name bytes e h =
     false_from_ne_true (is_name bytes) (λ t. let none : name_fault bytes ≡ None = (names_are_faultless bytes).1 t in cc)

@@ -1,10 +1,11 @@
 -- How many pieces a text expands to, byte by byte.
-use Rattle.std.proofs.Common.{◌≡◌, ℕ, ◌+◌, Bool, true, false, ◌||◌, ◌&&◌, not, cond, List, [], ◌∷◌, length, flat_map, refl, sym, ap, ◌∙◌, arith, length-append}
+use Rattle.std.proofs.Common.{◌≡◌, ℕ, ◌+◌, Bool, true, false, ◌||◌, ◌&&◌, not, cond, List, [], ◌∷◌, length, flat_map, refl, sym, ap}
+use Rattle.std.proofs.Common.{◌∙◌, arith, length-append}
 use Rattle.std.specs.List.{list_any, slice_split, onto_first, count_by}
 use Rattle.std.proofs.lemmas.List.{length-map}
 use Rattle.std.proofs.lemmas.List.Splits.{slice_split-cons_yes, slice_split-cons_no, length-slice_split}
 use Rattle.std.proofs.lemmas.List.Sums.{sum_by-cons}
-use Rattle.rl_names.proofs.CutLaw.{all_suffix}
+use Rattle.rl_names.proofs.CutLemmas.{all_suffix}
 use Rattle.rl_names.specs.Counting.{has_dot, divides_pieces, piece_count}
 use Rattle.rl_names.specs.Packing.{is_bar, is_comma, is_dot, suffix_of, expand_group, expand}
 
@@ -25,7 +26,8 @@ group_more : (b : ℕ) (group : List ℕ) → is_bar b ≡ false
     → length (expand_group (b ∷ group)) ≡ length (expand_group group) + cond (divides_pieces b (list_any is_dot group)) 1 0
 group_more b group e =
     let more = commas_more (list_any is_dot group) (is_dot b) b group refl refl in
-    let divides : divides_pieces b (list_any is_dot group) ≡ (is_comma b && not (list_any is_dot group)) = ap (λ v. v || (is_comma b && not (list_any is_dot group))) e in
+    let divides : divides_pieces b (list_any is_dot group) ≡ (is_comma b && not (list_any is_dot group)) =
+    ap (λ v. v || (is_comma b && not (list_any is_dot group))) e in
     rw divides (omega (arith, group_pieces (b ∷ group), group_pieces group, more))
 
 -- ---- all groups
@@ -59,7 +61,8 @@ split_length : (bs group : List ℕ) (groups : List (List ℕ)) → slice_split 
     → length (expand bs) ≡ length (expand_group group) + length (flat_map expand_group groups)
 split_length bs group groups e = ap (λ l. length (flat_map expand_group l)) e ∙ length-append (expand_group group) (flat_map expand_group groups)
 
-count_step : (bar : Bool) (b : ℕ) (bs : List ℕ) → is_bar b ≡ bar → length (expand (b ∷ bs)) ≡ length (expand bs) + cond (divides_pieces b (has_dot bs)) 1 0
+count_step : (bar : Bool) (b : ℕ) (bs : List ℕ) → is_bar b ≡ bar →
+    length (expand (b ∷ bs)) ≡ length (expand bs) + cond (divides_pieces b (has_dot bs)) 1 0
 count_step true b bs e =
     let whole = split_length (b ∷ bs) [] (slice_split is_bar bs) (slice_split-cons_yes is_bar b bs e) in
     let divides : divides_pieces b (has_dot bs) ≡ true = ap (λ v. v || (is_comma b && not (has_dot bs))) e in

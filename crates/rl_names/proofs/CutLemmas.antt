@@ -1,5 +1,6 @@
 -- A text cut at its last byte that passes: the two parts, and what they are where the place is known.
-use Rattle.std.proofs.Common.{◌≡◌, ℕ, suc, ◌<◌, ◌+◌, ◌-◌, Bool, true, false, ◌||◌, cond, List, [], ◌∷◌, ◌++◌, length, get_or, take, drop, length-drop, length-append, refl, sym, ap, ◌∙◌, arith, append_assoc}
+use Rattle.std.proofs.Common.{◌≡◌, ℕ, suc, ◌<◌, ◌+◌, ◌-◌, Bool, true, false, ◌||◌, cond, List, [], ◌∷◌, ◌++◌, length, get_or}
+use Rattle.std.proofs.Common.{take, drop, length-drop, length-append, refl, sym, ap, ◌∙◌, arith, append_assoc}
 use Rattle.std.specs.List.{list_any}
 use Rattle.std.proofs.lemmas.Bool.{or_from, or_right}
 use Rattle.std.proofs.Math.Seq.{take-append_seam}
@@ -17,7 +18,8 @@ cut p (b ∷ bs) =
       | false ↦ refl
     ]
 
-none_step : (p : ℕ → Bool) (v : Bool) (b : ℕ) (bs : List ℕ) → list_any p (b ∷ bs) ≡ v → list_any p (suffix_by p bs) ≡ false → list_any p (cond v (suffix_by p bs) (b ∷ bs)) ≡ false
+none_step : (p : ℕ → Bool) (v : Bool) (b : ℕ) (bs : List ℕ) → list_any p (b ∷ bs) ≡ v → list_any p (suffix_by p bs) ≡ false →
+    list_any p (cond v (suffix_by p bs) (b ∷ bs)) ≡ false
 none_step p true b bs e h = h
 none_step p false b bs e h = e
 
@@ -28,11 +30,13 @@ none_after p (b ∷ bs) = none_step p (list_any p (b ∷ bs)) b bs refl (none_af
 
 pub any_front : (p : ℕ → Bool) (xs : List ℕ) → list_any p (front_by p xs) ≡ list_any p xs
 any_front p xs =
-    let whole : list_any p xs ≡ (list_any p (front_by p xs) || list_any p (suffix_by p xs)) = ap (list_any p) (sym (cut p xs)) ∙ list_any-append p (front_by p xs) (suffix_by p xs) in
+    let whole : list_any p xs ≡ (list_any p (front_by p xs) || list_any p (suffix_by p xs)) = ap (list_any p) (sym (cut p xs))
+    ∙ list_any-append p (front_by p xs) (suffix_by p xs) in
     let or_false : (a : Bool) → (a || false) ≡ a = λ (a : Bool). elim a as (λ v. (v || false) ≡ v) [ true ↦ refl | false ↦ refl ] in
     sym (whole ∙ ap (λ v. list_any p (front_by p xs) || v) (none_after p xs) ∙ or_false (list_any p (front_by p xs)))
 
-front_step : (p : ℕ → Bool) (v : Bool) (b : ℕ) (bs : List ℕ) → list_any p (b ∷ bs) ≡ v → front_by p (front_by p bs) ≡ front_by p bs → front_by p (cond v (b ∷ front_by p bs) []) ≡ cond v (b ∷ front_by p bs) []
+front_step : (p : ℕ → Bool) (v : Bool) (b : ℕ) (bs : List ℕ) → list_any p (b ∷ bs) ≡ v → front_by p (front_by p bs) ≡ front_by p bs →
+    front_by p (cond v (b ∷ front_by p bs) []) ≡ cond v (b ∷ front_by p bs) []
 front_step p false b bs e h = refl
 front_step p true b bs e h =
     let still : (p b || list_any p (front_by p bs)) ≡ true = ap (λ v. p b || v) (any_front p bs) ∙ e in
@@ -89,7 +93,8 @@ cut_round p xs c ys h k =
       ap (suffix_by p) whole ∙ suffix-append p (xs ++ c ∷ []) ys (ends_with p xs c h) k,
     )
 
-pub before_round : (p : ℕ → Bool) (xs : List ℕ) (c : ℕ) (ys : List ℕ) → p c ≡ true → list_any p ys ≡ false → before_by p (xs ++ c ∷ ys) ≡ xs
+pub before_round : (p : ℕ → Bool) (xs : List ℕ) (c : ℕ) (ys : List ℕ) → p c ≡ true → list_any p ys ≡ false →
+    before_by p (xs ++ c ∷ ys) ≡ xs
 before_round p xs c ys h k =
     let front : length (front_by p (xs ++ c ∷ ys)) - 1 ≡ length xs = omega (arith, ap length (cut_round p xs c ys h k).0, length-append xs (c ∷ [])) in
     ap (λ n. take n (xs ++ c ∷ ys)) front ∙ take-append_seam xs (c ∷ ys)
@@ -99,14 +104,17 @@ none_from_places p [] h = refl
 none_from_places p (b ∷ bs) h = or_from (p b) (list_any p bs) (h 0 (omega arith)) (none_from_places p bs (λ i within. h (suc i) (omega arith)))
 
 -- the same, by the place of that byte
-pub cut_at : (p : ℕ → Bool) (bs : List ℕ) (k : ℕ) → k < length bs → p (get_or bs k 0) ≡ true → ((i : ℕ) → k < i → i < length bs → p (get_or bs i 0) ≡ false)
+pub cut_at : (p : ℕ → Bool) (bs : List ℕ) (k : ℕ) → k < length bs → p (get_or bs k 0) ≡ true →
+    ((i : ℕ) → k < i → i < length bs → p (get_or bs i 0) ≡ false)
     → (front_by p bs ≡ take (k + 1) bs) × (suffix_by p bs ≡ drop (k + 1) bs) × (before_by p bs ≡ take k bs)
 cut_at p bs k within here later =
     let c = get_or bs k 0 in
     let front : take (k + 1) bs ≡ take k bs ++ c ∷ [] = take_more bs k 0 within in
-    let whole : bs ≡ take k bs ++ c ∷ drop (k + 1) bs = sym (take-append-drop (k + 1) bs) ∙ ap (λ l. l ++ drop (k + 1) bs) front ∙ append_assoc (take k bs) (c ∷ []) (drop (k + 1) bs) in
+    let whole : bs ≡ take k bs ++ c ∷ drop (k + 1) bs = sym (take-append-drop (k + 1) bs) ∙ ap (λ l. l ++ drop (k + 1) bs) front
+    ∙ append_assoc (take k bs) (c ∷ []) (drop (k + 1) bs) in
     let none : list_any p (drop (k + 1) bs) ≡ false =
-    none_from_places p (drop (k + 1) bs) (λ i inside. ap p (get_or-drop (k + 1) bs i 0) ∙ later (k + 1 + i) (omega arith) (omega (arith, length-drop (k + 1) bs))) in
+    none_from_places p (drop (k + 1) bs) (λ i inside. ap p (get_or-drop (k + 1) bs i 0)
+    ∙ later (k + 1 + i) (omega arith) (omega (arith, length-drop (k + 1) bs))) in
     let parts = cut_round p (take k bs) c (drop (k + 1) bs) here none in (
       ap (front_by p) whole ∙ parts.0 ∙ sym front,
       ap (suffix_by p) whole ∙ parts.1,

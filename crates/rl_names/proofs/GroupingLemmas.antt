@@ -1,5 +1,7 @@
 -- Groups that names are put into one after another are the groups of packing.
-use Rattle.std.proofs.Common.{◌≡◌, ◌==◌, ℕ, zero, suc, ◌<◌, ◌≤◌, ◌+◌, Bool, true, false, ◌||◌, not, cond, Option, Some, None, List, [], ◌∷◌, ◌++◌, length, map, get_or, set, refl, sym, ap, ◌∙◌, subst, arith, append_assoc, append-nil, filter, flat_map, bytes_eq, unwrap_or, is_some, Result, Ok, Err, IfOk}
+use Rattle.std.proofs.Common.{◌≡◌, ◌==◌, ℕ, zero, suc, ◌<◌, ◌≤◌, ◌+◌, Bool, true, false, ◌||◌, not, cond, Option, Some, None}
+use Rattle.std.proofs.Common.{List, [], ◌∷◌, ◌++◌, length, map, get_or, set, refl, sym, ap, ◌∙◌, subst, arith, append_assoc, append-nil, filter}
+use Rattle.std.proofs.Common.{flat_map, bytes_eq, unwrap_or, is_some, Result, Ok, Err, IfOk}
 use Rattle.std.specs.List.{list_any, join_with_byte, position_from, AllByRecursion}
 use Rattle.std.proofs.lemmas.Bool.{or_parts, or_from, or_right, ne_eqb}
 use Rattle.std.proofs.lemmas.List.Folds.{list_any-append}
@@ -8,21 +10,24 @@ use Rattle.std.proofs.lemmas.List.Elements.{filter-append}
 use Rattle.rl_names.specs.Packing.{front_of, suffix_of, distinct, fronts, group_of, group_text, pack, packed_order, expand, AreNames}
 use Rattle.rl_names.specs.declared.text.NoMemory.{NoMemory}
 use Rattle.rl_names.specs.Grouping.{put_at, front_of_all, group_written}
-use Rattle.rl_names.proofs.PackingLaw.{same_text, text_itself, IsUsed, used_fronts, distinct_kept, packing_is_read_again}
+use Rattle.rl_names.proofs.PackingLemmas.{same_text, text_itself, IsUsed, used_fronts, distinct_kept, packing_is_read_again}
 
 -- ---- one more name, in the code's vectors
 
-pub put_within : {A : Type 0} (f : A → List (List ℕ)) (gs : List A) (p : ℕ) (g d : A) (n : List ℕ) → p < length gs → f g ≡ f (get_or gs p d) ++ n ∷ [] → map f (set gs p g) ≡ put_at (map f gs) p n
+pub put_within : {A : Type 0} (f : A → List (List ℕ)) (gs : List A) (p : ℕ) (g d : A) (n : List ℕ) → p < length gs →
+    f g ≡ f (get_or gs p d) ++ n ∷ [] → map f (set gs p g) ≡ put_at (map f gs) p n
 put_within f [] p g d n within e = absurd (omega arith)
 put_within f (x ∷ xs) zero g d n within e = ap (λ l. l ∷ map f xs) e
 put_within f (x ∷ xs) (suc p) g d n within e = ap (λ l. f x ∷ l) (put_within f xs p g d n (omega arith) e)
 
-behind : {A : Type 0} (f : A → List (List ℕ)) (gs : List A) (p : ℕ) (g : A) (n : List ℕ) → length gs ≤ p → f g ≡ n ∷ [] → map f (gs ++ g ∷ []) ≡ put_at (map f gs) p n
+behind : {A : Type 0} (f : A → List (List ℕ)) (gs : List A) (p : ℕ) (g : A) (n : List ℕ) → length gs ≤ p → f g ≡ n ∷ [] →
+    map f (gs ++ g ∷ []) ≡ put_at (map f gs) p n
 behind f [] p g n above e = ap (λ l. l ∷ []) e
 behind f (x ∷ xs) zero g n above e = absurd (omega arith)
 behind f (x ∷ xs) (suc p) g n above e = ap (λ l. f x ∷ l) (behind f xs p g n (omega arith) e)
 
-pub put_behind : {A : Type 0} (f : A → List (List ℕ)) (gs after : List A) (p : ℕ) (g : A) (n : List ℕ) → after ≡ gs ++ g ∷ [] → length gs ≤ p → f g ≡ n ∷ [] → map f after ≡ put_at (map f gs) p n
+pub put_behind : {A : Type 0} (f : A → List (List ℕ)) (gs after : List A) (p : ℕ) (g : A) (n : List ℕ) → after ≡ gs ++ g ∷ [] →
+    length gs ≤ p → f g ≡ n ∷ [] → map f after ≡ put_at (map f gs) p n
 put_behind f gs after p g n is above e = ap (map f) is ∙ behind f gs p g n above e
 
 -- ---- tests of texts
@@ -53,13 +58,16 @@ has_more q xs y =
 -- ---- distinct texts
 
 push_step : (more : Bool) (same : Bool) (x y : List ℕ) (d : List (List ℕ)) → bytes_eq x y ≡ same
-    → x ∷ filter (λ z. not (bytes_eq x z)) (cond more d (d ++ y ∷ [])) ≡ cond (same || more) (x ∷ filter (λ z. not (bytes_eq x z)) d) ((x ∷ filter (λ z. not (bytes_eq x z)) d) ++ y ∷ [])
+    → x ∷ filter (λ z. not (bytes_eq x z)) (cond more d (d ++ y ∷ []))
+    ≡ cond (same || more) (x ∷ filter (λ z. not (bytes_eq x z)) d) ((x ∷ filter (λ z. not (bytes_eq x z)) d) ++ y ∷ [])
 push_step true true x y d e = refl
 push_step true false x y d e = refl
 push_step false true x y d e =
-    ap (λ l. x ∷ l) (filter-append (λ z. not (bytes_eq x z)) d (y ∷ []) ∙ ap (λ v. filter (λ z. not (bytes_eq x z)) d ++ cond (not v) (y ∷ []) []) e ∙ append-nil (filter (λ z. not (bytes_eq x z)) d))
+    ap (λ l. x ∷ l) (filter-append (λ z. not (bytes_eq x z)) d (y ∷ []) ∙ ap (λ v. filter (λ z. not (bytes_eq x z)) d ++ cond (not v) (y ∷ []) []) e
+    ∙ append-nil (filter (λ z. not (bytes_eq x z)) d))
 push_step false false x y d e =
-    ap (λ l. x ∷ l) (filter-append (λ z. not (bytes_eq x z)) d (y ∷ []) ∙ ap (λ v. filter (λ z. not (bytes_eq x z)) d ++ cond (not v) (y ∷ []) []) e)
+    ap (λ l. x ∷ l) (filter-append (λ z. not (bytes_eq x z)) d (y ∷ [])
+    ∙ ap (λ v. filter (λ z. not (bytes_eq x z)) d ++ cond (not v) (y ∷ []) []) e)
 
 -- one more text: it is kept where none before is the same
 pub distinct_push : (xs : List (List ℕ)) (y : List ℕ) → distinct (xs ++ y ∷ []) ≡ cond (has y xs) (distinct xs) (distinct xs ++ y ∷ [])
@@ -68,7 +76,8 @@ distinct_push (x ∷ xs) y =
     ap (λ l. x ∷ filter (λ z. not (bytes_eq x z)) l) (distinct_push xs y)
     ∙ push_step (has y xs) (bytes_eq x y) x y (distinct xs) refl
 
-kept_step : (q x y : List ℕ) (v : Bool) (rest rest' : Bool) → bytes_eq x q ≡ false → bytes_eq x y ≡ v → rest ≡ rest' → (xs : List (List ℕ)) → has q xs ≡ rest
+kept_step : (q x y : List ℕ) (v : Bool) (rest rest' : Bool) → bytes_eq x q ≡ false → bytes_eq x y ≡ v → rest ≡ rest' →
+    (xs : List (List ℕ)) → has q xs ≡ rest
     → has q (cond (not v) (y ∷ xs) xs) ≡ (bytes_eq y q || rest')
 kept_step q x y false rest rest' apart e same xs is = ap (λ v. bytes_eq y q || v) (is ∙ same)
 kept_step q x y true rest rest' apart e same xs is =
@@ -79,9 +88,11 @@ kept_step q x y true rest rest' apart e same xs is =
 has_kept : (q x : List ℕ) (xs : List (List ℕ)) → bytes_eq x q ≡ false → has q (filter (λ y. not (bytes_eq x y)) xs) ≡ has q xs
 has_kept q x [] apart = refl
 has_kept q x (y ∷ ys) apart =
-    kept_step q x y (bytes_eq x y) (has q (filter (λ z. not (bytes_eq x z)) ys)) (has q ys) apart refl (has_kept q x ys apart) (filter (λ z. not (bytes_eq x z)) ys) refl
+    kept_step q x y (bytes_eq x y) (has q (filter (λ z. not (bytes_eq x z)) ys)) (has q ys) apart refl (has_kept q x ys apart)
+    (filter (λ z. not (bytes_eq x z)) ys) refl
 
-has_distinct_step : (q x : List ℕ) (xs d : List (List ℕ)) (v : Bool) → bytes_eq x q ≡ v → has q d ≡ has q xs → (v || has q (filter (λ y. not (bytes_eq x y)) d)) ≡ (v || has q xs)
+has_distinct_step : (q x : List ℕ) (xs d : List (List ℕ)) (v : Bool) → bytes_eq x q ≡ v → has q d ≡ has q xs →
+    (v || has q (filter (λ y. not (bytes_eq x y)) d)) ≡ (v || has q xs)
 has_distinct_step q x xs d true e same = refl
 has_distinct_step q x xs d false e same = has_kept q x d e ∙ same
 
@@ -94,7 +105,8 @@ Once : List (List ℕ) → Type 0
 Once [] = Unit {0}
 Once (x ∷ xs) = (has x xs ≡ false) × Once xs
 
-left_out_step : (x y : List ℕ) (v : Bool) (xs : List (List ℕ)) → bytes_eq x y ≡ v → has x xs ≡ false → has x (cond (not v) (y ∷ xs) xs) ≡ false
+left_out_step : (x y : List ℕ) (v : Bool) (xs : List (List ℕ)) → bytes_eq x y ≡ v → has x xs ≡ false →
+    has x (cond (not v) (y ∷ xs) xs) ≡ false
 left_out_step x y true xs e h = h
 left_out_step x y false xs e h = or_from (bytes_eq y x) (has x xs) (same_either_way y x ∙ e) h
 
@@ -102,7 +114,8 @@ left_out : (x : List ℕ) (xs : List (List ℕ)) → has x (filter (λ y. not (b
 left_out x [] = refl
 left_out x (y ∷ ys) = left_out_step x y (bytes_eq x y) (filter (λ z. not (bytes_eq x z)) ys) refl (left_out x ys)
 
-fewer_step : (q y : List ℕ) (v : Bool) (xs ys : List (List ℕ)) → (has q xs ≡ false) → (bytes_eq y q || has q ys) ≡ false → has q (cond v (y ∷ xs) xs) ≡ false
+fewer_step : (q y : List ℕ) (v : Bool) (xs ys : List (List ℕ)) → (has q xs ≡ false) → (bytes_eq y q || has q ys) ≡ false →
+    has q (cond v (y ∷ xs) xs) ≡ false
 fewer_step q y false xs ys h k = h
 fewer_step q y true xs ys h k = or_from (bytes_eq y q) (has q xs) (or_parts (bytes_eq y q) (has q ys) k).0 h
 
@@ -141,19 +154,23 @@ place_from q i (x ∷ xs) =
 
 -- ---- the groups after one more name
 
-group_push : (names : List (List ℕ)) (name front : List ℕ) → group_of (names ++ name ∷ []) front ≡ cond (bytes_eq front (front_of name)) (group_of names front ++ name ∷ []) (group_of names front)
+group_push : (names : List (List ℕ)) (name front : List ℕ) →
+    group_of (names ++ name ∷ []) front ≡ cond (bytes_eq front (front_of name)) (group_of names front ++ name ∷ []) (group_of names front)
 group_push names name front =
     filter-append (λ n. bytes_eq front (front_of n)) names (name ∷ [])
-    ∙ elim (bytes_eq front (front_of name)) as (λ v. group_of names front ++ cond v (name ∷ []) [] ≡ cond v (group_of names front ++ name ∷ []) (group_of names front)) [
+    ∙ elim (bytes_eq front (front_of name)) as (λ v. group_of names front ++ cond v (name ∷ []) []
+    ≡ cond v (group_of names front ++ name ∷ []) (group_of names front)) [
       | true ↦ refl
       | false ↦ append-nil (group_of names front)
     ]
 
-unchanged : (done : List (List ℕ)) (y : List ℕ) (fs : List (List ℕ)) → has (front_of y) fs ≡ false → map (group_of (done ++ y ∷ [])) fs ≡ map (group_of done) fs
+unchanged : (done : List (List ℕ)) (y : List ℕ) (fs : List (List ℕ)) → has (front_of y) fs ≡ false →
+    map (group_of (done ++ y ∷ [])) fs ≡ map (group_of done) fs
 unchanged done y [] h = refl
 unchanged done y (f ∷ fs) h =
     let parts = or_parts (bytes_eq f (front_of y)) (has (front_of y) fs) h in
-    let first : group_of (done ++ y ∷ []) f ≡ group_of done f = group_push done y f ∙ ap (λ v. cond v (group_of done f ++ y ∷ []) (group_of done f)) parts.0 in
+    let first : group_of (done ++ y ∷ []) f ≡ group_of done f = group_push done y f
+    ∙ ap (λ v. cond v (group_of done f ++ y ∷ []) (group_of done f)) parts.0 in
     ap (λ g. g ∷ map (group_of (done ++ y ∷ [])) fs) first ∙ ap (λ gs. group_of done f ∷ gs) (unchanged done y fs parts.1)
 
 grown_group : (done : List (List ℕ)) (y f : List ℕ) → bytes_eq f (front_of y) ≡ true → group_of (done ++ y ∷ []) f ≡ group_of done f ++ y ∷ []
@@ -166,10 +183,13 @@ fronts_after fs front = cond (has front fs) fs (fs ++ front ∷ [])
 IsPlace : ℕ → ℕ → List ℕ → List (List ℕ) → Type 0
 IsPlace i place front fs = i + place ≡ unwrap_or (position_from (λ f. bytes_eq f front) i fs) (i + length fs)
 
-puts_step : (done : List (List ℕ)) (y : List ℕ) (i : ℕ) (f : List ℕ) (fs : List (List ℕ)) (v : Bool) → bytes_eq f (front_of y) ≡ v → Once (f ∷ fs)
+puts_step : (done : List (List ℕ)) (y : List ℕ) (i : ℕ) (f : List ℕ) (fs : List (List ℕ)) (v : Bool) → bytes_eq f (front_of y) ≡ v →
+    Once (f ∷ fs)
     → (place : ℕ) → i + place ≡ unwrap_or (cond v (Some i) (position_from (λ g. bytes_eq g (front_of y)) (i + 1) fs)) (i + suc (length fs))
-    → ((p : ℕ) → v ≡ false → IsPlace (i + 1) p (front_of y) fs → put_at (map (group_of done) fs) p y ≡ map (group_of (done ++ y ∷ [])) (fronts_after fs (front_of y)))
-    → put_at (map (group_of done) (f ∷ fs)) place y ≡ map (group_of (done ++ y ∷ [])) (cond (v || has (front_of y) fs) (f ∷ fs) (f ∷ (fs ++ front_of y ∷ [])))
+    → ((p : ℕ) → v ≡ false → IsPlace (i + 1) p (front_of y) fs →
+    put_at (map (group_of done) fs) p y ≡ map (group_of (done ++ y ∷ [])) (fronts_after fs (front_of y)))
+    → put_at (map (group_of done) (f ∷ fs)) place y ≡ map (group_of (done ++ y ∷ []))
+    (cond (v || has (front_of y) fs) (f ∷ fs) (f ∷ (fs ++ front_of y ∷ [])))
 unfolding Once IsPlace fronts_after
 puts_step done y i f fs true e once zero at more =
     let none : has (front_of y) fs ≡ false = rw (same_text f (front_of y) e) at once.0 in
@@ -186,15 +206,19 @@ puts_step done y i f fs false e once (suc place) at more =
     let same : i + suc (length fs) ≡ i + 1 + length fs = omega arith in
     let there : i + suc place ≡ unwrap_or (position_from (λ g. bytes_eq g (front_of y)) (i + 1) fs) (i + 1 + length fs) = rw same at at in
     let here : i + 1 + place ≡ unwrap_or (position_from (λ g. bytes_eq g (front_of y)) (i + 1) fs) (i + 1 + length fs) = omega (arith, there) in
-    let first : group_of (done ++ y ∷ []) f ≡ group_of done f = group_push done y f ∙ ap (λ v. cond v (group_of done f ++ y ∷ []) (group_of done f)) e in
+    let first : group_of (done ++ y ∷ []) f ≡ group_of done f = group_push done y f
+    ∙ ap (λ v. cond v (group_of done f ++ y ∷ []) (group_of done f)) e in
     let out : cond (has (front_of y) fs) (f ∷ fs) (f ∷ (fs ++ front_of y ∷ [])) ≡ f ∷ cond (has (front_of y) fs) fs (fs ++ front_of y ∷ []) =
-    elim (has (front_of y) fs) as (λ w. cond w (f ∷ fs) (f ∷ (fs ++ front_of y ∷ [])) ≡ f ∷ cond w fs (fs ++ front_of y ∷ [])) [ true ↦ refl | false ↦ refl ] in
+    elim (has (front_of y) fs) as (λ w. cond w (f ∷ fs) (f ∷ (fs ++ front_of y ∷ [])) ≡ f
+    ∷ cond w fs (fs ++ front_of y ∷ [])) [ true ↦ refl | false ↦ refl ] in
     ap (λ gs. group_of done f ∷ gs) (more place refl here)
     ∙ ap (λ g. g ∷ map (group_of (done ++ y ∷ [])) (cond (has (front_of y) fs) fs (fs ++ front_of y ∷ []))) (sym first)
     ∙ ap (map (group_of (done ++ y ∷ []))) (sym out)
 
-puts : (done : List (List ℕ)) (y : List ℕ) (i : ℕ) (fs : List (List ℕ)) → Once fs → (has (front_of y) fs ≡ false → group_of done (front_of y) ≡ [])
-    → (place : ℕ) → IsPlace i place (front_of y) fs → put_at (map (group_of done) fs) place y ≡ map (group_of (done ++ y ∷ [])) (fronts_after fs (front_of y))
+puts : (done : List (List ℕ)) (y : List ℕ) (i : ℕ) (fs : List (List ℕ)) → Once fs →
+    (has (front_of y) fs ≡ false → group_of done (front_of y) ≡ [])
+    → (place : ℕ) → IsPlace i place (front_of y) fs →
+    put_at (map (group_of done) fs) place y ≡ map (group_of (done ++ y ∷ [])) (fronts_after fs (front_of y))
 unfolding Once IsPlace fronts_after
 puts done y i [] once none place at =
     ap (λ g. g ∷ []) (sym (grown_group done y (front_of y) (text_itself (front_of y)) ∙ ap (λ l. l ++ y ∷ []) (none refl)))
@@ -216,18 +240,22 @@ fronts_push done y =
     ∙ ap (λ v. cond v (fronts done) (fronts done ++ front_of y ∷ [])) (sym (has_distinct (front_of y) (map front_of done)))
 
 -- a name that is put at the place of its front
-pub name_put : (done : List (List ℕ)) (y : List ℕ) (place : ℕ) → place ≡ unwrap_or (position_from (λ f. bytes_eq f (front_of y)) 0 (fronts done)) (length (fronts done))
+pub name_put : (done : List (List ℕ)) (y : List ℕ) (place : ℕ) →
+    place ≡ unwrap_or (position_from (λ f. bytes_eq f (front_of y)) 0 (fronts done)) (length (fronts done))
     → put_at (map (group_of done) (fronts done)) place y ≡ map (group_of (done ++ y ∷ [])) (fronts (done ++ y ∷ []))
 unfolding IsPlace
 name_put done y place at =
-    let none : has (front_of y) (fronts done) ≡ false → group_of done (front_of y) ≡ [] = λ h. no_group (front_of y) done (sym (has_distinct (front_of y) (map front_of done)) ∙ h) in
+    let none : has (front_of y) (fronts done) ≡ false → group_of done (front_of y)
+    ≡ [] = λ h. no_group (front_of y) done (sym (has_distinct (front_of y) (map front_of done)) ∙ h) in
     let start : 0 + length (fronts done) ≡ length (fronts done) = omega arith in
-    let there : 0 + place ≡ unwrap_or (position_from (λ f. bytes_eq f (front_of y)) 0 (fronts done)) (0 + length (fronts done)) = rw start (omega (arith, at)) in
+    let there : 0 + place ≡ unwrap_or (position_from (λ f. bytes_eq f (front_of y)) 0 (fronts done)) (0 + length (fronts done)) =
+    rw start (omega (arith, at)) in
     puts done y 0 (fronts done) (once_distinct (map front_of done)) none place there ∙ ap (map (group_of (done ++ y ∷ []))) (sym (fronts_push done y))
 
 -- ---- the places after one more name
 
-found_step : (p : List ℕ → Bool) (y : List ℕ) (i n m : ℕ) (v : Bool) (o o' : Option ℕ) → i + 1 + m ≡ n → o' ≡ cond (is_some o) o (cond (p y) (Some (i + 1 + m)) None)
+found_step : (p : List ℕ → Bool) (y : List ℕ) (i n m : ℕ) (v : Bool) (o o' : Option ℕ) → i + 1 + m ≡ n →
+    o' ≡ cond (is_some o) o (cond (p y) (Some (i + 1 + m)) None)
     → cond v (Some i) o' ≡ cond (is_some (cond v (Some i) o)) (cond v (Some i) o) (cond (p y) (Some n) None)
 found_step p y i n m true o o' same is = refl
 found_step p y i n m false o o' same is = is ∙ ap (λ k. cond (is_some o) o (cond (p y) (Some k) None)) same
@@ -236,11 +264,13 @@ position_push : (p : List ℕ → Bool) (i : ℕ) (xs : List (List ℕ)) (y : Li
     → position_from p i (xs ++ y ∷ []) ≡ cond (is_some (position_from p i xs)) (position_from p i xs) (cond (p y) (Some (i + length xs)) None)
 position_push p i [] y = ap (λ k. cond (p y) (Some k) None) (omega arith)
 position_push p i (x ∷ xs) y =
-    found_step p y i (i + suc (length xs)) (length xs) (p x) (position_from p (i + 1) xs) (position_from p (i + 1) (xs ++ y ∷ [])) (omega arith) (position_push p (i + 1) xs y)
+    found_step p y i (i + suc (length xs)) (length xs) (p x) (position_from p (i + 1) xs) (position_from p (i + 1) (xs ++ y ∷ [])) (omega arith)
+    (position_push p (i + 1) xs y)
 
 is_found : (p : List ℕ → Bool) (i : ℕ) (xs : List (List ℕ)) → is_some (position_from p i xs) ≡ list_any p xs
 is_found p i [] = refl
-is_found p i (x ∷ xs) = elim (p x) as (λ v. is_some (cond v (Some i) (position_from p (i + 1) xs)) ≡ (v || list_any p xs)) [ true ↦ refl | false ↦ is_found p (i + 1) xs ]
+is_found p i (x ∷ xs) = elim (p x) as (λ v. is_some (cond v (Some i) (position_from p (i + 1) xs))
+    ≡ (v || list_any p xs)) [ true ↦ refl | false ↦ is_found p (i + 1) xs ]
 
 kept_found : (o : Option ℕ) → cond (is_some o) o None ≡ o
 kept_found None = refl
@@ -270,14 +300,18 @@ noted_other fs front q false apart =
     sym (position_push (λ f. bytes_eq f q) 0 fs front ∙ rw apart (kept_found (position_from (λ f. bytes_eq f q) 0 fs)))
 
 noted_step : (fs : List (List ℕ)) (front q : List ℕ) (v : Bool) → bytes_eq front q ≡ v
-    → cond v (Some (unwrap_or (position_from (λ f. bytes_eq f front) 0 fs) (length fs))) (position_from (λ f. bytes_eq f q) 0 fs) ≡ position_from (λ f. bytes_eq f q) 0 (cond (has front fs) fs (fs ++ front ∷ []))
+    → cond v (Some (unwrap_or (position_from (λ f. bytes_eq f front) 0 fs) (length fs))) (position_from (λ f. bytes_eq f q) 0 fs)
+    ≡ position_from (λ f. bytes_eq f q) 0 (cond (has front fs) fs (fs ++ front ∷ []))
 noted_step fs front q true e =
-    let P : List ℕ → Type 0 = λ r. Some (unwrap_or (position_from (λ f. bytes_eq f front) 0 fs) (length fs)) ≡ position_from (λ f. bytes_eq f r) 0 (cond (has front fs) fs (fs ++ front ∷ [])) in
+    let P : List ℕ → Type 0 = λ r. Some (unwrap_or (position_from (λ f. bytes_eq f front) 0 fs) (length fs))
+    ≡ position_from (λ f. bytes_eq f r) 0 (cond (has front fs) fs (fs ++ front ∷ [])) in
     subst P (same_text front q e) (noted_same fs front (has front fs) refl)
 noted_step fs front q false e = noted_other fs front q (has front fs) e
 
-pub place_noted : (done : List (List ℕ)) (y : List ℕ) (place : ℕ) → place ≡ unwrap_or (position_from (λ f. bytes_eq f (front_of y)) 0 (fronts done)) (length (fronts done))
-    → (q : List ℕ) → cond (bytes_eq (front_of y) q) (Some place) (position_from (λ f. bytes_eq f q) 0 (fronts done)) ≡ position_from (λ f. bytes_eq f q) 0 (fronts (done ++ y ∷ []))
+pub place_noted : (done : List (List ℕ)) (y : List ℕ) (place : ℕ) →
+    place ≡ unwrap_or (position_from (λ f. bytes_eq f (front_of y)) 0 (fronts done)) (length (fronts done))
+    → (q : List ℕ) → cond (bytes_eq (front_of y) q) (Some place) (position_from (λ f. bytes_eq f q) 0 (fronts done))
+    ≡ position_from (λ f. bytes_eq f q) 0 (fronts (done ++ y ∷ []))
 unfolding fronts_after
 place_noted done y place at q =
     ap (λ p. cond (bytes_eq (front_of y) q) (Some p) (position_from (λ f. bytes_eq f q) 0 (fronts done))) at
@@ -301,23 +335,28 @@ later : (n i : ℕ) → suc n ≡ i → (i == 0) ≡ false
 later n i at = ne_eqb i 0 (λ e. omega arith)
 
 -- one more piece of a joined text, at its place
-pub join_more : (c : ℕ) (xs : List (List ℕ)) (i : ℕ) (y : List ℕ) → length xs ≡ i → join_with_byte c (xs ++ y ∷ []) ≡ join_with_byte c xs ++ (cond (i == 0) [] (c ∷ []) ++ y)
+pub join_more : (c : ℕ) (xs : List (List ℕ)) (i : ℕ) (y : List ℕ) → length xs ≡ i →
+    join_with_byte c (xs ++ y ∷ []) ≡ join_with_byte c xs ++ (cond (i == 0) [] (c ∷ []) ++ y)
 unfolding some
 join_more c [] i y at = rw (← at) refl
 join_more c (x ∷ xs) i y at = join_push c (x ∷ xs) y ∙ rw (later (length xs) i at) refl
 
 -- one more name of a group, at its place
-pub written_more : (names : List (List ℕ)) (i : ℕ) (y : List ℕ) → length names ≡ i → group_written (names ++ y ∷ []) ≡ group_written names ++ (cond (i == 0) (front_of y) (44 ∷ []) ++ suffix_of y)
+pub written_more : (names : List (List ℕ)) (i : ℕ) (y : List ℕ) → length names ≡ i →
+    group_written (names ++ y ∷ []) ≡ group_written names ++ (cond (i == 0) (front_of y) (44 ∷ []) ++ suffix_of y)
 unfolding some
 written_more [] i y at = rw (← at) refl
 written_more (n ∷ ns) i y at =
     let joined : join_with_byte 44 (map suffix_of (n ∷ (ns ++ y ∷ []))) ≡ join_with_byte 44 (map suffix_of (n ∷ ns)) ++ 44 ∷ suffix_of y =
     ap (join_with_byte 44) (map-append suffix_of (n ∷ ns) (y ∷ [])) ∙ join_push 44 (map suffix_of (n ∷ ns)) (suffix_of y) in
-    ap (λ l. front_of n ++ l) joined ∙ sym (append_assoc (front_of n) (join_with_byte 44 (map suffix_of (n ∷ ns))) (44 ∷ suffix_of y)) ∙ rw (later (length ns) i at) refl
+    ap (λ l. front_of n ++ l) joined ∙ sym (append_assoc (front_of n) (join_with_byte 44 (map suffix_of (n ∷ ns))) (44 ∷ suffix_of y))
+    ∙ rw (later (length ns) i at) refl
 
 -- the front of a group is that of its first name
-front_shared_step : (v : Bool) (f n : List ℕ) (ns : List (List ℕ)) → bytes_eq f (front_of n) ≡ v → (v || list_any (λ name. bytes_eq f (front_of name)) ns) ≡ true
-    → (list_any (λ name. bytes_eq f (front_of name)) ns ≡ true → front_of_all (group_of ns f) ≡ f) → front_of_all (cond v (n ∷ group_of ns f) (group_of ns f)) ≡ f
+front_shared_step : (v : Bool) (f n : List ℕ) (ns : List (List ℕ)) → bytes_eq f (front_of n) ≡ v →
+    (v || list_any (λ name. bytes_eq f (front_of name)) ns) ≡ true
+    → (list_any (λ name. bytes_eq f (front_of name)) ns ≡ true → front_of_all (group_of ns f) ≡ f) →
+    front_of_all (cond v (n ∷ group_of ns f) (group_of ns f)) ≡ f
 front_shared_step true f n ns e h more = sym (same_text f (front_of n) e)
 front_shared_step false f n ns e h more = more h
 
@@ -351,6 +390,7 @@ pub groups_order : {A : Type 0} (f : A → List (List ℕ)) (gs : List A) (names
     → flat_map f gs ≡ packed_order names
 groups_order f gs names is = flat_map_map f gs ∙ ap (flat_map (λ l. l)) is ∙ sym (flat_map_map (group_of names) (fronts names))
 
-pub expands_again : (names : List (List ℕ)) (r : Result (List ℕ) NoMemory) → IfOk r (λ t. t ≡ pack names) → AreNames names → IfOk r (λ t. 0 < length names → expand t ≡ packed_order names)
+pub expands_again : (names : List (List ℕ)) (r : Result (List ℕ) NoMemory) → IfOk r (λ t. t ≡ pack names) → AreNames names →
+    IfOk r (λ t. 0 < length names → expand t ≡ packed_order names)
 expands_again names (Ok t) is all = λ some_names. ap expand is ∙ packing_is_read_again names some_names all
 expands_again names (Err e) is all = tt

@@ -1,19 +1,22 @@
 -- Key texts are what keys are read from.
-use Rattle.std.proofs.Common.{◌≡◌, ℕ, Bool, true, false, not, cond, Result, Ok, Err, List, [], ◌∷◌, ◌++◌, drop, refl, sym, ap, subst, ◌∙◌, arith, IsTrue, IfOk, IsErrAnd}
+use Rattle.std.proofs.Common.{◌≡◌, ℕ, Bool, true, false, not, cond, Option, Some, None, Result, Ok, Err, List, [], ◌∷◌, ◌++◌, drop, refl, sym}
+use Rattle.std.proofs.Common.{ap, subst, ◌∙◌, arith, IsTrue, IfOk, IsErrAnd}
 use Rattle.std.specs.List.{list_any, list_all}
+use Rattle.std.specs.Option.{option_map_or}
 use Rattle.std.proofs.lemmas.Bool.{and_parts, or_from, or_right, eqb-true, false_from_ne_true}
 use Rattle.std.proofs.lemmas.List.Folds.{list_any-append}
 use Rattle.rl_names.specs.Cut.{before_by, suffix_by}
-use Rattle.rl_names.specs.Name.{is_name, is_version, is_version_byte, key_text, ReadsName}
-use Rattle.rl_names.specs.Key.{is_at, key_of, key_error_of, Splits, KeyTexts}
+use Rattle.rl_names.specs.Name.{is_name, is_version, is_version_byte, key_text, name_fault, name_of, fault_told, NameFault}
+use Rattle.rl_names.specs.Name as faults
+use Rattle.rl_names.specs.Meant.{Gives}
+use Rattle.rl_names.specs.Key.{is_at, key_of, key_error_of, key_fault_told, KeyFault, KeyTexts, NoVersion, BadVersion, BadName}
 use Rattle.rl_names.specs.declared.name.Key.{Key}
 use Rattle.rl_names.specs.declared.name.NameError.{NameError}
 use Rattle.rl_names.specs.declared.name.NameError.TheVariants as name_error
 use Rattle.rl_names.specs.declared.text.NoMemory.{NoMemory}
 use Rattle.rl_names.specs.declared.name.KeyError.{KeyError}
-use Rattle.rl_names.specs.declared.name.KeyError.TheVariants.{NoVersion, BadVersion, BadName}
-use Rattle.rl_names.proofs.NameLaw.{faulty_name}
-use Rattle.rl_names.proofs.CutLaw.{cut_round, before_round}
+use Rattle.rl_names.proofs.NameLemmas.{faulty_name}
+use Rattle.rl_names.proofs.CutLemmas.{cut_round, before_round}
 
 not_at : (bs : List ℕ) → list_all is_version_byte bs ≡ true → list_any is_at bs ≡ false
 not_at [] h = refl
@@ -28,8 +31,10 @@ version_not_at v h = not_at v (grind arith)
 split_last : (xs : List ℕ) → list_any is_at xs ≡ true → (ys : List ℕ) × (zs : List ℕ) × (xs ≡ ys ++ 64 ∷ zs) × (list_any is_at zs ≡ false)
 split_last [] h = absurd (cc)
 split_last (x ∷ xs) h =
-    let step : (v : Bool) → list_any is_at xs ≡ v → (ys : List ℕ) × (zs : List ℕ) × (x ∷ xs ≡ ys ++ 64 ∷ zs) × (list_any is_at zs ≡ false) =
-    λ (v : Bool). elim v as (λ w. list_any is_at xs ≡ w → (ys : List ℕ) × (zs : List ℕ) × (x ∷ xs ≡ ys ++ 64 ∷ zs) × (list_any is_at zs ≡ false)) [
+    let step : (v : Bool) → list_any is_at xs ≡ v → (ys : List ℕ) × (zs : List ℕ) × (x ∷ xs ≡ ys ++ 64 ∷ zs)
+    × (list_any is_at zs ≡ false) =
+    λ (v : Bool). elim v as (λ w. list_any is_at xs ≡ w →
+    (ys : List ℕ) × (zs : List ℕ) × (x ∷ xs ≡ ys ++ 64 ∷ zs) × (list_any is_at zs ≡ false)) [
       | true ↦ λ e. let (ys, zs, is, none) = split_last xs e in (x ∷ ys, zs, ap (λ l. x ∷ l) is, none)
       | false ↦ λ e. ([], xs, ap (λ b. b ∷ xs) (eqb-true x 64 (grind arith)), e)
     ] in
@@ -43,7 +48,8 @@ whole_round xs h =
     is ∙ ap (λ l. l ++ 64 ∷ zs) (sym before) ∙ ap (λ l. before_by is_at xs ++ 64 ∷ l) (sym after)
 
 told : (at version name : Bool) (key read : Key)
-    → cond (not at) (Err NoVersion) (cond (not version) (Err BadVersion) (cond (not name) (Err BadName) (Ok key))) ≡ Ok read → (at ≡ true) × (key ≡ read)
+    → cond (not at) (Err NoVersion) (cond (not version) (Err BadVersion) (cond (not name) (Err BadName) (Ok key))) ≡ Ok read →
+    (at ≡ true) × (key ≡ read)
 told false version name key read e = absurd (cc)
 told true false name key read e = absurd (cc)
 told true true false key read e = absurd (cc)
@@ -83,20 +89,41 @@ pub written_again : (key : Key) (r : Result (List ℕ) NoMemory) → IsTrue (is_
 written_again key (Ok t) name version is = ap key_of is ∙ written key name version
 written_again key (Err e) name version is = tt
 
-bad_name : (text : List ℕ) → list_any is_at (drop 1 text) ≡ true → is_version (suffix_by is_at text) ≡ true → is_name (before_by is_at text) ≡ false → key_of text ≡ Err BadName
+bad_name : (text : List ℕ) → list_any is_at (drop 1 text) ≡ true → is_version (suffix_by is_at text) ≡ true →
+    is_name (before_by is_at text) ≡ false → key_of text ≡ Err BadName
 bad_name text at version name = rw (at, version, name) refl
 
-told_fault : (text : List ℕ) (e : NameError) → ReadsName (Err e) (before_by is_at text) → list_any is_at (drop 1 text) ≡ true → is_version (suffix_by is_at text) ≡ true → Splits (Err (key_error_of e)) (key_of text)
-told_fault text name_error.NoMemory h at version = tt
-told_fault text name_error.Empty h at version = bad_name text at version (faulty_name (before_by is_at text) name_error.Empty h)
-told_fault text (name_error.TooLong n) h at version = bad_name text at version (faulty_name (before_by is_at text) (name_error.TooLong n) h)
-told_fault text (name_error.BadByte n) h at version = bad_name text at version (faulty_name (before_by is_at text) (name_error.BadByte n) h)
-told_fault text name_error.LeadingDot h at version = bad_name text at version (faulty_name (before_by is_at text) name_error.LeadingDot h)
+as_told : {f : KeyFault} → Some BadName ≡ Some f → ◌≡◌ {A = Result Key KeyFault} (Err BadName) (Err f)
+as_told {f} told = cc
+
+-- a text that is refused as a name is none
+no_name : (text : List ℕ) (fault : NameFault) (v : Option NameFault) → name_fault text ≡ v → option_map_or Err v (Ok text) ≡ Err fault →
+    is_name text ≡ false
+no_name text fault None e h = absurd (cc)
+no_name text fault (Some f) e h = faulty_name text f e
+
+told_fault : (text : List ℕ) (e : NameError) → Gives fault_told (Err e) (name_of (before_by is_at text)) → list_any is_at (drop 1 text) ≡ true
+    → is_version (suffix_by is_at text) ≡ true → Gives key_fault_told (Err (key_error_of e)) (key_of text)
+told_fault text name_error.NoMemory h at version refusal none = cc
+told_fault text name_error.Empty h at version refusal told =
+    bad_name text at version (no_name (before_by is_at text) faults.Empty (name_fault (before_by is_at text)) refl (h faults.Empty refl)) ∙ as_told told
+told_fault text (name_error.TooLong n) h at version refusal told =
+    bad_name text at version (no_name (before_by is_at text) (faults.TooLong n) (name_fault (before_by is_at text)) refl (h (faults.TooLong n) refl))
+    ∙ as_told told
+told_fault text (name_error.BadByte n) h at version refusal told =
+    bad_name text at version (no_name (before_by is_at text) (faults.BadByte n) (name_fault (before_by is_at text)) refl (h (faults.BadByte n) refl))
+    ∙ as_told told
+told_fault text name_error.LeadingDot h at version refusal told =
+    bad_name text at version (no_name (before_by is_at text) faults.LeadingDot (name_fault (before_by is_at text)) refl (h faults.LeadingDot refl))
+    ∙ as_told told
 
 -- a fault of the name, told as a fault of the key
-pub refused : (text name version : List ℕ) (e : NameError) (r : Result Key KeyError) → IsErrAnd r (λ k. k ≡ key_error_of e) → ReadsName (Err e) name
-    → list_any is_at (drop 1 text) ≡ true → name ≡ before_by is_at text → version ≡ suffix_by is_at text → is_version version ≡ true → Splits r (key_of text)
+pub refused : (text name version : List ℕ) (e : NameError) (r : Result Key KeyError) → IsErrAnd r (λ k. k ≡ key_error_of e) →
+    Gives fault_told (Err e) (name_of name)
+    → list_any is_at (drop 1 text) ≡ true → name ≡ before_by is_at text → version ≡ suffix_by is_at text → is_version version ≡ true →
+    Gives key_fault_told r (key_of text)
 refused text name version e (Ok key) h reads at front after is = absurd h
 refused text name version e (Err k) h reads at front after is =
-    let P : KeyError → Type 0 = λ k. Splits (Err k) (key_of text) in
-    subst P (sym h) (told_fault text e (rw front at reads) at (rw after at is))
+    let P : KeyError → Type 0 = λ k. Gives key_fault_told (Err k) (key_of text) in
+    let Q : List ℕ → Type 0 = λ n. Gives fault_told (Err e) (name_of n) in
+    subst P (sym h) (told_fault text e (subst Q front reads) at (rw after at is))

@@ -6,14 +6,16 @@ use Rattle.rl_names.specs.declared.query.Query.{Query}
 use Rattle.rl_names.specs.declared.text.NoMemory.{NoMemory}
 use Rattle.rl_names.specs.Query.{debug_text, only_text, query_text, query_of, IsText}
 use Rattle.rl_names.specs.QuerySteps.{with_parameter}
-use Rattle.rl_names.proofs.QueryAgain.{query_is_read_again}
+use Rattle.rl_names.proofs.QueryAgainLemmas.{query_is_read_again}
 
 abbrev present : List ℕ × List ℕ → Bool
 present pair = nat_lt 0 (length pair.1)
 
-one : (form name value : List ℕ) (ps : List (List ℕ × List ℕ)) → extend_pairs form (filter present ((name, value) ∷ ps)) ≡ extend_pairs (with_parameter form name value) (filter present ps)
+one : (form name value : List ℕ) (ps : List (List ℕ × List ℕ)) →
+    extend_pairs form (filter present ((name, value) ∷ ps)) ≡ extend_pairs (with_parameter form name value) (filter present ps)
 one form name value ps =
-    elim (nat_lt 0 (length value)) as (λ v. extend_pairs form (cond v ((name, value) ∷ filter present ps) (filter present ps)) ≡ extend_pairs (cond v (append_pair form name value) form) (filter present ps)) [ true ↦ refl | false ↦ refl ]
+    elim (nat_lt 0 (length value)) as (λ v. extend_pairs form (cond v ((name, value) ∷ filter present ps) (filter present ps))
+    ≡ extend_pairs (cond v (append_pair form name value) form) (filter present ps)) [ true ↦ refl | false ↦ refl ]
 
 abbrev pub up_to_lang : Query → List ℕ
 up_to_lang q = with_parameter (with_parameter [] (codes "debug") (debug_text q.debug)) (codes "lang") q.lang

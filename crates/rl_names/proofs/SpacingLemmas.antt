@@ -6,7 +6,8 @@ use Rattle.std.proofs.lemmas.List.{append_assoc}
 use Rattle.rl_names.specs.Spacing.{with_word}
 use Rattle.rl_names.specs.Title.{is_filled}
 
-joined_more : (text word : List ℕ) (rest : List (List ℕ)) → join_with_byte 32 ((text ++ 32 ∷ word) ∷ rest) ≡ join_with_byte 32 (text ∷ word ∷ rest)
+joined_more : (text word : List ℕ) (rest : List (List ℕ)) →
+    join_with_byte 32 ((text ++ 32 ∷ word) ∷ rest) ≡ join_with_byte 32 (text ∷ word ∷ rest)
 joined_more text word [] = refl
 joined_more text word (next ∷ rest) = append_assoc text (32 ∷ word) (32 ∷ join_with_byte 32 (next ∷ rest))
 

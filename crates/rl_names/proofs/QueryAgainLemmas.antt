@@ -1,5 +1,6 @@
 -- A query that was written is read again.
-use Rattle.std.proofs.Common.{◌≡◌, ℕ, ◌<◌, ◌+◌, ◌/◌, Bool, true, false, cond, nat_lt, List, [], ◌∷◌, length, map, refl, sym, ap, subst, ◌∙◌, arith, filter, inl, inr}
+use Rattle.std.proofs.Common.{◌≡◌, ℕ, ◌<◌, ◌+◌, ◌/◌, Bool, true, false, cond, nat_lt, List, [], ◌∷◌, length, map, refl, sym, ap}
+use Rattle.std.proofs.Common.{subst, ◌∙◌, arith, filter, inl, inr}
 use Rattle.std.specs.Prelude.{fold, codes, IsUtf8}
 use Rattle.std.specs.List.{All}
 use Rattle.std.specs.Str.{is_utf8, chars}
@@ -16,7 +17,7 @@ use Rattle.rl_names.specs.declared.query.Only.TheVariants.{All as everything, Sc
 use Rattle.rl_names.specs.declared.query.Query.{Query}
 use Rattle.rl_names.specs.Query.{is_on, only_of, query_text, debug_text, only_text, parameters, IsText, QueryIsReadAgain}
 use Rattle.rl_names.specs.QuerySteps.{no_query, noted, noted_pair}
-use Rattle.rl_names.proofs.QueryLaw.{noted_query}
+use Rattle.rl_names.proofs.QueryLemmas.{noted_query}
 
 -- ---- texts are bytes
 
@@ -29,8 +30,11 @@ character_bytes c s =
     (λ _. cond_both (nat_lt c 2048) ((192 + c / 64) ∷ next c ∷ []) _ (All IsByte)
     (λ e. All-cons IsByte (192 + c / 64) (next c ∷ []) (omega (arith, ltb-true c 2048 e)) (All-cons IsByte (next c) [] last (All-nil IsByte)))
     (λ _. cond_both (nat_lt c 65536) ((224 + c / 4096) ∷ next (c / 64) ∷ next c ∷ []) _ (All IsByte)
-    (λ e. All-cons IsByte (224 + c / 4096) (next (c / 64) ∷ next c ∷ []) (omega (arith, ltb-true c 65536 e)) (All-cons IsByte (next (c / 64)) (next c ∷ []) (omega arith) (All-cons IsByte (next c) [] last (All-nil IsByte))))
-    (λ _. All-cons IsByte (240 + c / 262144) (next (c / 4096) ∷ next (c / 64) ∷ next c ∷ []) (omega arith) (All-cons IsByte (next (c / 4096)) (next (c / 64) ∷ next c ∷ []) (omega arith) (All-cons IsByte (next (c / 64)) (next c ∷ []) (omega arith) (All-cons IsByte (next c) [] last (All-nil IsByte)))))))
+    (λ e. All-cons IsByte (224 + c / 4096) (next (c / 64) ∷ next c ∷ []) (omega (arith, ltb-true c 65536 e))
+    (All-cons IsByte (next (c / 64)) (next c ∷ []) (omega arith) (All-cons IsByte (next c) [] last (All-nil IsByte))))
+    (λ _. All-cons IsByte (240 + c / 262144) (next (c / 4096) ∷ next (c / 64) ∷ next c ∷ []) (omega arith)
+    (All-cons IsByte (next (c / 4096)) (next (c / 64) ∷ next c ∷ []) (omega arith)
+    (All-cons IsByte (next (c / 64)) (next c ∷ []) (omega arith) (All-cons IsByte (next c) [] last (All-nil IsByte)))))))
 
 text_bytes_of : (cs : List ℕ) → scalars cs ≡ true → All IsByte (encodes cs)
 text_bytes_of [] s = All-nil IsByte
@@ -57,8 +61,10 @@ decoded_first : (q : Query) (ps : List (List ℕ × List ℕ)) → fold noted_pa
 decoded_first q [] = refl
 decoded_first q (p ∷ ps) = decoded_first (noted_pair q p) ps
 
-kept : (q : Query) (p : List ℕ × List ℕ) (ps : List (List ℕ × List ℕ)) → fold plain_pair q (filter present (p ∷ ps)) ≡ fold plain_pair (cond (present p) (plain_pair q p) q) (filter present ps)
-kept q p ps = elim (present p) as (λ v. fold plain_pair q (cond v (p ∷ filter present ps) (filter present ps)) ≡ fold plain_pair (cond v (plain_pair q p) q) (filter present ps)) [ true ↦ refl | false ↦ refl ]
+kept : (q : Query) (p : List ℕ × List ℕ) (ps : List (List ℕ × List ℕ)) →
+    fold plain_pair q (filter present (p ∷ ps)) ≡ fold plain_pair (cond (present p) (plain_pair q p) q) (filter present ps)
+kept q p ps = elim (present p) as (λ v. fold plain_pair q (cond v (p ∷ filter present ps) (filter present ps))
+    ≡ fold plain_pair (cond v (plain_pair q p) q) (filter present ps)) [ true ↦ refl | false ↦ refl ]
 
 no_bytes : (bs : List ℕ) → nat_lt 0 (length bs) ≡ false → bs ≡ []
 no_bytes [] h = refl
@@ -66,7 +72,8 @@ no_bytes (b ∷ bs) h = absurd (omega (arith, ltb-false 0 (length (b ∷ bs)) h)
 
 -- a parameter is taken where it is written, and else the query has its value already
 read_one : (name value : List ℕ) (q after : Query) (ps : List (List ℕ × List ℕ)) → utf8_lossy name ≡ name → utf8_lossy value ≡ value
-    → noted q name value ≡ after → (value ≡ [] → q ≡ after) → fold plain_pair q (filter present ((name, value) ∷ ps)) ≡ fold plain_pair after (filter present ps)
+    → noted q name value ≡ after → (value ≡ [] → q ≡ after) →
+    fold plain_pair q (filter present ((name, value) ∷ ps)) ≡ fold plain_pair after (filter present ps)
 read_one name value q after ps n v taken absent =
     kept q (name, value) ps
     ∙ ap (λ r. fold plain_pair r (filter present ps))
@@ -125,13 +132,20 @@ read_all q texts =
     let t4 = (codes "only", only_text q.only) ∷ t5 in
     let t3 = (codes "modules", q.modules) ∷ t4 in
     let t2 = (codes "lang", q.lang) ∷ t3 in
-    read_one (codes "debug") (debug_text q.debug) no_query q1 t2 (plain_text (codes "debug") refl) (plain_text (debug_text q.debug) (debug_utf8 q.debug)) (ap (λ d. record no_query { debug = d }) (debug_again q.debug)) (debug_absent q.debug)
-    ∙ read_one (codes "lang") q.lang q1 q2 t3 (plain_text (codes "lang") refl) (utf8_lossy-IsUtf8 q.lang texts.lang) refl (λ e. ap (λ v. record q1 { lang = v }) (sym e))
-    ∙ read_one (codes "modules") q.modules q2 q3 t4 (plain_text (codes "modules") refl) (utf8_lossy-IsUtf8 q.modules texts.modules) refl (λ e. ap (λ v. record q2 { modules = v }) (sym e))
-    ∙ read_one (codes "only") (only_text q.only) q3 q4 t5 (plain_text (codes "only") refl) (plain_text (only_text q.only) (only_utf8 q.only)) (ap (λ o. record q3 { only = o }) (only_again q.only)) (only_absent q3 q.only refl)
-    ∙ read_one (codes "skin") q.skin q4 q5 t6 (plain_text (codes "skin") refl) (utf8_lossy-IsUtf8 q.skin texts.skin) refl (λ e. ap (λ v. record q4 { skin = v }) (sym e))
-    ∙ read_one (codes "user") q.user q5 q6 t7 (plain_text (codes "user") refl) (utf8_lossy-IsUtf8 q.user texts.user) refl (λ e. ap (λ v. record q5 { user = v }) (sym e))
-    ∙ read_one (codes "version") q.version q6 q [] (plain_text (codes "version") refl) (utf8_lossy-IsUtf8 q.version texts.version) refl (λ e. ap (λ v. record q6 { version = v }) (sym e))
+    read_one (codes "debug") (debug_text q.debug) no_query q1 t2 (plain_text (codes "debug") refl) (plain_text (debug_text q.debug) (debug_utf8 q.debug))
+    (ap (λ d. record no_query { debug = d }) (debug_again q.debug)) (debug_absent q.debug)
+    ∙ read_one (codes "lang") q.lang q1 q2 t3 (plain_text (codes "lang") refl) (utf8_lossy-IsUtf8 q.lang texts.lang) refl
+    (λ e. ap (λ v. record q1 { lang = v }) (sym e))
+    ∙ read_one (codes "modules") q.modules q2 q3 t4 (plain_text (codes "modules") refl) (utf8_lossy-IsUtf8 q.modules texts.modules) refl
+    (λ e. ap (λ v. record q2 { modules = v }) (sym e))
+    ∙ read_one (codes "only") (only_text q.only) q3 q4 t5 (plain_text (codes "only") refl) (plain_text (only_text q.only) (only_utf8 q.only))
+    (ap (λ o. record q3 { only = o }) (only_again q.only)) (only_absent q3 q.only refl)
+    ∙ read_one (codes "skin") q.skin q4 q5 t6 (plain_text (codes "skin") refl) (utf8_lossy-IsUtf8 q.skin texts.skin) refl
+    (λ e. ap (λ v. record q4 { skin = v }) (sym e))
+    ∙ read_one (codes "user") q.user q5 q6 t7 (plain_text (codes "user") refl) (utf8_lossy-IsUtf8 q.user texts.user) refl
+    (λ e. ap (λ v. record q5 { user = v }) (sym e))
+    ∙ read_one (codes "version") q.version q6 q [] (plain_text (codes "version") refl) (utf8_lossy-IsUtf8 q.version texts.version) refl
+    (λ e. ap (λ v. record q6 { version = v }) (sym e))
 
 -- ---- the whole
 
@@ -149,7 +163,8 @@ byte_pairs q texts =
     let t2 : List (List ℕ × List ℕ) = (codes "lang", q.lang) ∷ t3 in
     let debug_is = IsUtf8-from_is_utf8 (debug_text q.debug) (debug_utf8 q.debug) in
     let only_is = IsUtf8-from_is_utf8 (only_text q.only) (only_utf8 q.only) in
-    let a7 : All IsBytePair t7 = All-cons IsBytePair (codes "version", q.version) [] (byte_pair (codes "version") q.version refl texts.version) (All-nil IsBytePair) in
+    let a7 : All IsBytePair t7 = All-cons IsBytePair (codes "version", q.version) [] (byte_pair (codes "version") q.version refl texts.version)
+    (All-nil IsBytePair) in
     let a6 : All IsBytePair t6 = All-cons IsBytePair (codes "user", q.user) t7 (byte_pair (codes "user") q.user refl texts.user) a7 in
     let a5 : All IsBytePair t5 = All-cons IsBytePair (codes "skin", q.skin) t6 (byte_pair (codes "skin") q.skin refl texts.skin) a6 in
     let a4 : All IsBytePair t4 = All-cons IsBytePair (codes "only", only_text q.only) t5 (byte_pair (codes "only") (only_text q.only) refl only_is) a5 in
