@@ -8,8 +8,10 @@ use Rattle.std.proofs.lemmas.Cmp.{nat_list_cmp_total}
 use Rattle.std.proofs.lemmas.Map.Text.{is_eq-slice_cmp}
 use Rattle.rl_base.specs.Memory.{file_of}
 
-map_cond : (b : Bool) (e : List ℕ × List ℕ) (r : Option (List ℕ × List ℕ)) → cond b (Some e.1) (option_map (λ (f : List ℕ × List ℕ). f.1) r) ≡ option_map (λ (f : List ℕ × List ℕ). f.1) (cond b (Some e) r)
-map_cond b e r = elim b as (λ v. cond v (Some e.1) (option_map (λ (f : List ℕ × List ℕ). f.1) r) ≡ option_map (λ (f : List ℕ × List ℕ). f.1) (cond v (Some e) r)) [ true ↦ refl | false ↦ refl ]
+map_cond : (b : Bool) (e : List ℕ × List ℕ) (r : Option (List ℕ × List ℕ)) →
+    cond b (Some e.1) (option_map (λ (f : List ℕ × List ℕ). f.1) r) ≡ option_map (λ (f : List ℕ × List ℕ). f.1) (cond b (Some e) r)
+map_cond b e r = elim b as (λ v. cond v (Some e.1) (option_map (λ (f : List ℕ × List ℕ). f.1) r)
+    ≡ option_map (λ (f : List ℕ × List ℕ). f.1) (cond v (Some e) r)) [ true ↦ refl | false ↦ refl ]
 
 find_file : (es : List (List ℕ × List ℕ)) (q : List ℕ) → map.find (slice_cmp nat_cmp) q es ≡ file_of es q
 find_file [] q = refl

@@ -1,5 +1,6 @@
 -- The memory forms: what they hold, what a call answers but for want of memory, and what it leaves.
-use Rattle.std.specs.Prelude.{ℕ, ◌++◌, List, Bool, if◌then◌else◌, take, length, Option, Some, None, Result, Ok, Err, option_map, find, bytes_eq, nat_eq}
+use Rattle.std.specs.Prelude.{ℕ, ◌++◌, List, Bool, if◌then◌else◌, take, length, Option, Some, None, Result, Ok, Err, option_map, find, bytes_eq}
+use Rattle.std.specs.Prelude.{nat_eq}
 use Rattle.std.specs.List.{list_any}
 use Rattle.std.specs.FinMap as map
 use Rattle.rl_base.specs.Causes.{next}

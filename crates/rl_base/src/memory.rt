@@ -1,3 +1,4 @@
+//! The memory forms, which tell what they hold.
 ghost use Rattle.std.specs.Prelude.{◌≡◌, ◌≢◌, ◌≤◌, [], take, Some, None, Err, IfOk, IfErr, IsErrOf, IsSomeAnd, option_map};
 ghost use Rattle.std.specs.FinMap as map;
 ghost use Rattle.rl_base.specs.Files.{IsFrontOf};

@@ -1,7 +1,9 @@
-ghost use Rattle.std.specs.Prelude.{◌≡◌, ◌++◌, ◌∷◌, [], ℕ, List, Bool, Option, Some, None, OnOk, OnErr};
+//! Who is told of each script that runs.
+ghost use Rattle.std.specs.Prelude.{◌≡◌, ◌++◌, ◌∷◌, [], ℕ, List, Bool, Option, Some, None, OnOk, OnErr, IfSome};
 ghost use Rattle.rl_names.specs.declared.name.Key.{Key};
 ghost use Rattle.rl_base.specs.Execution.{Execution};
 
+use crate::recorder::Recorder;
 use rl_names::{Key, NoMemory};
 
 /// What is told of each script that runs.
@@ -29,4 +31,8 @@ pub trait Observer: Drop {
         ensures threw { result ≡ throws self.old key.now script.now }
         ensures spent { room_for self.new ≡ None }
         ensures fixed { (k : Key) (s : List ℕ) → throws self.new k s ≡ throws self.old k s };
+
+    /// The recorder that it is, if it is one.
+    fn recorder(&self) -> Option<&Recorder>
+        ensures { IfSome result (λ recorder. recorder.now.ran ≡ ran self.now) };
 }

@@ -1,3 +1,4 @@
+//! Outputs.
 ghost use Rattle.std.specs.Prelude.{◌≡◌, ◌≢◌, ◌≤◌, [], ℕ, List, Option, IfOk, OnErr, IsErrOf, length};
 ghost use Rattle.rl_base.specs.Causes.{Rose};
 ghost use Rattle.rl_base.specs.Written.{and_front};

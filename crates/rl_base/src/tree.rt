@@ -1,3 +1,4 @@
+//! Files by name.
 ghost use Rattle.std.specs.Prelude.{◌≡◌, ◌≤◌, ℕ, List, Option, None, IfOk, IsErrOf, IsSomeAnd, length};
 ghost use Rattle.std.specs.FinMap as map;
 ghost use Rattle.rl_base.specs.Causes.{Rose};

@@ -1,0 +1,15 @@
+use Rattle.std.proofs.Common.{◌∙◌, ap}
+use Rattle.std.specs.List.{list_any}
+use Rattle.std.proofs.lemmas.List.{take_at}
+use Rattle.rl_base.proofs.TurnsLemmas.{asked_same}
+use Rattle.rl_base.proofs.hears.VecBoxDynObserverSendHears.hear.Goals as goal
+
+pub returns-clause-threw : goal.returns-clause-threw
+returns-clause-threw g c = rw (← c.as_mut_slice.ensures.value) c.tell_each.ensures.threw
+
+pub returns-clause-fixed : goal.returns-clause-fixed
+returns-clause-fixed g c k s =
+    ap (list_any (λ o. (goal.Observer-dyn g (o.vtable, o.value)).throws o.value k s))
+    (take_at c.tell_each.new.observers _ _ (c.tell_each.auto.observers ∙ c.as_mut_slice.ensures.len))
+    ∙ asked_same (λ o. (goal.Observer-dyn g (o.vtable, o.value)).throws o.value k s) _ _ (c.tell_each.ensures.fixed k s)
+    ∙ ap (list_any (λ o. (goal.Observer-dyn g (o.vtable, o.value)).throws o.value k s)) c.as_mut_slice.ensures.value

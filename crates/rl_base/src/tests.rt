@@ -1,0 +1,99 @@
+//! What the real forms hand on of a reader and a writer that go byte by byte, and what observers are told.
+
+use crate::fault::{Faults, Reason};
+use crate::hears::Hears;
+use crate::observer::Observer;
+use crate::real::{hand, read_front};
+use crate::recorder::Recorder;
+use crate::sink::SinkError;
+use rl_names::{Key, Name};
+use std::io;
+use std::io::{ErrorKind, Read, Write};
+use std::test::Fail;
+
+/// Takes one byte a call, and fails once it holds three.
+#[derive(Drop)]
+struct Slow {
+    taken: Vec<u8>,
+}
+
+impl Write for Slow {
+    fn write(&mut self, bytes: &[u8]) -> io::Result<usize> {
+        match bytes.first() {
+            Some(_) if self.taken.len() >= 3 => Err(ErrorKind::StorageFull.into()),
+            Some(byte) => {
+                self.taken.push(*byte)?;
+                Ok(1)
+            }
+            None => Ok(0),
+        }
+    }
+
+    fn flush(&mut self) -> io::Result<()> {
+        Ok(())
+    }
+}
+
+/// Gives one byte a call.
+#[derive(Drop)]
+struct Drip<'a> {
+    left: &'a [u8],
+}
+
+impl Read for Drip<'_> {
+    fn read(&mut self, into: &mut [u8]) -> io::Result<usize> {
+        let (Some(byte), Some(place)) = (self.left.first(), into.first_mut()) else {
+            return Ok(0);
+        };
+        *place = *byte;
+        self.left = &self.left[1..];
+        Ok(1)
+    }
+}
+
+#[test]
+fn counts_are_those_of_the_writer(rt: HostRuntime) -> Result<(), Fail> {
+    let mut faults = Faults::none();
+    let mut writer = Slow {
+        taken: Vec::new(rt.alloc()),
+    };
+    assert_eq!(rt; hand(&mut writer, b"abc", &mut faults), Ok(1));
+    assert_eq!(rt; hand(&mut writer, b"bc", &mut faults), Ok(1));
+    assert_eq!(rt; hand(&mut writer, b"", &mut faults), Ok(0));
+    assert_eq!(rt; hand(&mut writer, b"c", &mut faults), Ok(1));
+    assert_eq!(rt; (faults.count, faults.reason), (0, None));
+    assert_eq!(rt;
+        hand(&mut writer, b"d", &mut faults),
+        Err(SinkError::Failed)
+    );
+    assert_eq!(rt; (faults.count, faults.reason), (1, Some(Reason::NoSpace)));
+    assert_eq!(rt; writer.taken.as_slice(), b"abc".as_slice());
+    Ok(())
+}
+
+#[test]
+fn bytes_are_those_of_the_reader(rt: HostRuntime) -> Result<(), Fail> {
+    let bytes = read_front(Drip { left: b"abcd" }, rt.alloc(), 3)?;
+    assert_eq!(rt; bytes.as_slice(), b"abc".as_slice());
+    let bytes = read_front(Drip { left: b"abcd" }, rt.alloc(), 5)?;
+    assert_eq!(rt; bytes.as_slice(), b"abcd".as_slice());
+    Ok(())
+}
+
+/// Each of two observers is told once, and one of them throws.
+#[test]
+fn observers_are_told(rt: HostRuntime) -> Result<(), Fail> {
+    let alloc = rt.alloc();
+    let mut names = Vec::new(alloc);
+    names.push(Name::read(alloc, b"B")?)?;
+    let mut observers: Vec<Box<dyn Observer + Send>> = Vec::new(alloc);
+    observers.push(Box::new(alloc, Recorder::new(alloc, names))?)?;
+    observers.push(Box::new(alloc, Recorder::new(alloc, Vec::new(alloc)))?)?;
+    assert!(rt; observers.hear(&Key::split(alloc, b"B@bbbbb")?, b"b()")?);
+    assert!(rt; !observers.hear(&Key::split(alloc, b"A@aaaaa")?, b"a()")?);
+    for observer in &observers {
+        let recorder = observer.recorder().ok_or("a recorder")?;
+        assert_eq!(rt; recorder.count(), 2);
+    }
+    Ok(())
+}
