@@ -1,0 +1,5 @@
+pub mod EdgesLemmas
+pub mod IndexLemmas
+pub mod LeastLemmas
+pub mod RowsReadLemmas
+pub mod WalkingLemmas
