@@ -1,10 +1,10 @@
 -- The lines of an answer: each is a call of a function of the client, whose arguments are JSON.
-use Rattle.std.specs.Prelude.{◌≡◌, ⊤, Some, ℕ, List, [], ◌∷◌, ◌++◌, map, flat_map, codes}
+use Rattle.std.specs.Prelude.{◌≡◌, ⊤, Some, ℕ, List, [], ◌∷◌, ◌++◌, map, flat_map, codes, IsTrue, IsUtf8}
 use Rattle.std.specs.List.{AllByRecursion, join_with_byte}
 use Rattle.serde_json.specs.Read.{read}
 use Rattle.serde_json.specs.Data.{Data, string, object, no_members, member}
 use Rattle.serde_json.specs.Written.{compact_text}
-use Rattle.rl_names.specs.Name.{key_text}
+use Rattle.rl_names.specs.Name.{is_name, is_version, key_text}
 use Rattle.rl_names.specs.declared.part.Message.{Message}
 use Rattle.rl_names.specs.declared.kind.StateKind.{StateKind}
 use Rattle.rl_names.specs.declared.kind.StateKind.TheVariants.{Missing, Error}
@@ -67,7 +67,18 @@ IsInOrder (State name kind) = ⊤
 abbrev pub AreInOrder : List Part → Type 0
 AreInOrder parts = AllByRecursion IsInOrder parts
 
--- what a line says is JSON: its arguments between brackets are read as they were written
+abbrev pub AreTexts : List Message → Type 0
+AreTexts messages = AllByRecursion (λ (m : Message). IsUtf8 m.key × IsUtf8 m.text) messages
+
+-- what holds of each part: its name and its version are such, its texts are UTF-8, and its messages are in order
+abbrev pub IsPart : Part → Type 0
+IsPart (Impl name version script styles messages) =
+    IsTrue (is_name name) × IsTrue (is_version version) × IsUtf8 script × IsUtf8 styles × AreTexts messages × AreAscending messages
+IsPart (State name kind) = IsUtf8 name
+
+-- what a part's line says is JSON: its arguments between brackets are read as they were written
+abbrev pub ReadBack : Part → Type 0
+ReadBack part = read (91 ∷ (arguments_text (arguments_of part) ++ 93 ∷ [])) ≡ Some (array_of (arguments_of part))
+
 abbrev pub ArgumentsReadBack : Type 0
-ArgumentsReadBack = (part : Part) → IsInOrder part
-    → read (91 ∷ (arguments_text (arguments_of part) ++ 93 ∷ [])) ≡ Some (array_of (arguments_of part))
+ArgumentsReadBack = (part : Part) → IsInOrder part → ReadBack part

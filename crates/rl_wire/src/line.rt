@@ -1,20 +1,20 @@
 //! The lines of answers, added to a text.
-ghost use Rattle.std.specs.Prelude.{◌≡◌, ◌++◌, ◌∷◌, [], IfOk, OnOk, string_bytes};
+ghost use Rattle.std.specs.Prelude.{◌≡◌, ◌++◌, IfOk, OnOk, string_bytes};
 ghost use Rattle.rl_names.specs.Name.{key_text};
 ghost use Rattle.rl_wire.specs.Message.{AreAscending};
-ghost use Rattle.rl_wire.specs.Line.{line, implement_text, state_text};
+ghost use Rattle.rl_wire.specs.Line.{line, implement_text, state_text, AreTexts};
 
 use crate::values::{add_module, add_word};
 use rl_names::{Message, NoMemory, Version};
 use std::alloc::Global;
 
 /// The key of a module, as a text of its own.
-fn key_of(alloc: Global, name: &str, version: Version) -> Result<String, NoMemory>
-    ensures { IfOk result (λ t. string_bytes t ≡ key_text name.now version) }
+fn key_of(alloc: Global, name: &str, version: &str) -> Result<String, NoMemory>
+    ensures { IfOk result (λ t. string_bytes t ≡ key_text name.now version.now) }
 {
     let mut key = String::from_str(alloc, name)?;
     key.push_str("@")?;
-    version.push_to(&mut key)?;
+    key.push_str(version)?;
     Ok(key)
 }
 
@@ -23,13 +23,14 @@ pub(crate) fn add_implementation(
     alloc: Global,
     out: &mut String,
     name: &str,
-    version: Version,
+    version: &str,
     script: &str,
     styles: &str,
     messages: &[Message],
 ) -> Result<(), NoMemory>
-    ensures { OnOk result (string_bytes out.new ≡ string_bytes out.old
-        ++ implement_text name.now version script.now styles.now messages.now) }
+    ensures text { OnOk result (string_bytes out.new ≡ string_bytes out.old
+        ++ implement_text name.now version.now script.now styles.now messages.now) }
+    ensures texts { OnOk result (AreTexts messages.now) }
 {
     let key = key_of(alloc, name, version)?;
     out.push_str("mw.loader.implement(")?;
@@ -67,7 +68,7 @@ pub fn push_implementation(
     ensures { OnOk result (string_bytes out.new ≡ string_bytes out.old
         ++ line (implement_text name.now version script.now styles.now messages.now)) }
 {
-    add_implementation(alloc, out, name, version, script, styles, messages)?;
+    add_implementation(alloc, out, name, version.as_str(), script, styles, messages)?;
     out.push_str("\n")?;
     Ok(())
 }

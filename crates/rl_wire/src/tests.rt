@@ -1,4 +1,8 @@
-ghost use Rattle.std.specs.Prelude.{IfOk};
+//! What is written, and what of it is read again.
+mod answers;
+mod startups;
+
+ghost use Rattle.std.specs.Prelude.{◌<◌, length, IfOk};
 ghost use Rattle.rl_wire.specs.Line.{IsInOrder};
 ghost use Rattle.rl_wire.specs.Message.{AreAscending};
 
@@ -131,4 +135,22 @@ fn an_implementation_goes_last(rt: HostRuntime) -> Result<(), Fail> {
     let wanted = format!(in alloc; "before\n{MODULE_LINE}\n")?;
     assert_eq!(rt; body.as_str(), wanted.as_str());
     Ok(())
+}
+
+/// The bytes with others in the place of the one at `at`.
+fn spliced(alloc: Global, bytes: &[u8], at: usize, put: &[u8]) -> Result<Vec<u8>, NoMemory>
+    requires { at < length bytes.now }
+{
+    let mut made = Vec::from_slice(alloc, &bytes[..at])?;
+    made.extend_from_slice(put)?;
+    made.extend_from_slice(&bytes[at + 1..])?;
+    Ok(made)
+}
+
+/// The number of the line in which the byte at `at` stands, counted from 1.
+fn line_at(bytes: &[u8], at: usize) -> usize
+    requires { at < length bytes.now }
+{
+    let before = bytes[..at].iter().filter(|b| **b == b'\n').count();
+    before.saturating_add(1)
 }

@@ -5,7 +5,7 @@ ghost use Rattle.json.specs.Print.{print};
 ghost use Rattle.serde_json.specs.Data.{string};
 ghost use Rattle.rl_wire.specs.Message.{messages_value};
 ghost use Rattle.rl_wire.specs.Payload.{styles_value, payload_values};
-ghost use Rattle.rl_wire.specs.Line.{arguments_text, state_arguments};
+ghost use Rattle.rl_wire.specs.Line.{arguments_text, state_arguments, AreTexts};
 ghost use Rattle.rl_wire.specs.Tokens.{value_tokens, values_tokens, Adds};
 
 use json::Writer;
@@ -14,7 +14,7 @@ use std::alloc::Global;
 use std::mem;
 
 /// A writer behind what the text holds, which is empty from then on.
-fn take_out(alloc: Global, out: &mut String) -> Writer
+pub(crate) fn take_out(alloc: Global, out: &mut String) -> Writer
     ensures before { result.before ≡ string_bytes out.old }
     ensures tokens { result.tokens ≡ [] }
     ensures utf8 { IsUtf8 result.before }
@@ -34,7 +34,8 @@ pub(crate) fn text_of(json: Writer) -> String
 
 /// Writes the messages as an object.
 fn write_messages(json: &mut Writer, messages: &[Message]) -> Result<(), NoMemory>
-    ensures { Adds result json.old json.new (value_tokens (messages_value messages.now)) }
+    ensures adds { Adds result json.old json.new (value_tokens (messages_value messages.now)) }
+    ensures texts { OnOk result (AreTexts messages.now) }
 {
     json.begin_object()?;
     'messages: for message in messages {
@@ -67,8 +68,9 @@ pub(crate) fn write_payload(
     styles: &str,
     messages: &[Message],
 ) -> Result<(), NoMemory>
-    ensures { Adds result json.old json.new
+    ensures adds { Adds result json.old json.new
         (values_tokens (payload_values script.now styles.now messages.now)) }
+    ensures texts { OnOk result (AreTexts messages.now) }
 {
     json.string(script)?;
     write_styles(json, styles)?;
@@ -84,8 +86,9 @@ pub(crate) fn add_module(
     styles: &str,
     messages: &[Message],
 ) -> Result<(), NoMemory>
-    ensures { OnOk result (string_bytes out.new ≡ string_bytes out.old
+    ensures text { OnOk result (string_bytes out.new ≡ string_bytes out.old
         ++ arguments_text (string key.now ∷ payload_values script.now styles.now messages.now)) }
+    ensures texts { OnOk result (AreTexts messages.now) }
 {
     let mut json = take_out(alloc, out);
     json.string(key)?;

@@ -4,8 +4,8 @@ use Rattle.json.specs.Print.{print}
 use Rattle.serde_json.specs.Read.{read}
 use Rattle.rl_wire.specs.Payload.{payload_values}
 use Rattle.rl_wire.specs.Tokens.{values_tokens}
-use Rattle.rl_wire.proofs.Printed.{print-array}
-use Rattle.rl_wire.proofs.ReadBack.{payload_reads_back}
+use Rattle.rl_wire.proofs.PrintedLemmas.{print-array}
+use Rattle.rl_wire.proofs.ReadBackLemmas.{payload_reads_back}
 use Rattle.rl_wire.proofs.payload.payload_text.Goals as goal
 
 written : goal.returns-clause-text

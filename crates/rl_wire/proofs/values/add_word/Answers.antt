@@ -1,6 +1,6 @@
 use Rattle.std.proofs.Common.{rules}
 use Rattle.rl_wire.specs.Line.{state_arguments}
-use Rattle.rl_wire.proofs.Printed.{written}
+use Rattle.rl_wire.proofs.PrintedLemmas.{written}
 use Rattle.rl_wire.proofs.values.add_word.Goals as goal
 
 pub returns : goal.returns

@@ -27,7 +27,8 @@ items_end (json.item j js) c = fold-append (λ (_ : Bool) (t : Token). ends t) c
 members_end : (ms : json.Members) (c : Bool) → after c (members_tokens ms) ≡ true
 unfolding after
 members_end json.no_members c = refl
-members_end (json.member k j ms) c = fold-append (λ (_ : Bool) (t : Token). ends t) false (json_tokens j) (members_tokens ms) ∙ members_end ms (after false (json_tokens j))
+members_end (json.member k j ms) c = fold-append (λ (_ : Bool) (t : Token). ends t) false (json_tokens j) (members_tokens ms)
+    ∙ members_end ms (after false (json_tokens j))
 
 value_ends : (d : Data) (c : Bool) → after c (value_tokens d) ≡ true
 unfolding after
@@ -60,7 +61,8 @@ print-values (d ∷ e ∷ ds) =
     ∙ ap (λ text. text ++ 44 ∷ arguments_text (e ∷ ds)) (print-outline d)
 
 -- a text that ended before the values, and the values behind it
-pub written : (old before text : List ℕ) (tokens : List Token) (ds : List Data) → before ≡ old → tokens ≡ values_tokens ds → text ≡ before ++ print tokens → text ≡ old ++ arguments_text ds
+pub written : (old before text : List ℕ) (tokens : List Token) (ds : List Data) → before ≡ old → tokens ≡ values_tokens ds →
+    text ≡ before ++ print tokens → text ≡ old ++ arguments_text ds
 written old before text tokens ds same these is =
     is ∙ ap (λ b. b ++ print tokens) same ∙ ap (λ ts. old ++ print ts) these ∙ ap (λ bytes. old ++ bytes) (print-values ds)
 
@@ -76,7 +78,8 @@ print-array ds = ap (λ ts. print (Token.begin_array ∷ ts)) (sym (array_values
 items_joined : (ds : List Data) → items_text false (items_of ds) ≡ arguments_text ds ++ 93 ∷ []
 items_joined [] = refl
 items_joined (d ∷ []) = refl
-items_joined (d ∷ e ∷ ds) = ap (λ text. compact_text d ++ 44 ∷ text) (items_joined (e ∷ ds)) ∙ sym (append_assoc (compact_text d) (44 ∷ arguments_text (e ∷ ds)) (93 ∷ []))
+items_joined (d ∷ e ∷ ds) = ap (λ text. compact_text d ++ 44 ∷ text) (items_joined (e ∷ ds))
+    ∙ sym (append_assoc (compact_text d) (44 ∷ arguments_text (e ∷ ds)) (93 ∷ []))
 
 -- arguments between brackets are an array
 pub in_brackets : (ds : List Data) → compact_text (array_of ds) ≡ 91 ∷ (arguments_text ds ++ 93 ∷ [])

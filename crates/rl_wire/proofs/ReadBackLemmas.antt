@@ -18,15 +18,18 @@ use Rattle.serde_json.proofs.Texts.{print-outline}
 use Rattle.rl_names.specs.declared.part.Message.{Message}
 use Rattle.rl_wire.specs.Message.{IsBelow, AreAscending, members_of, messages_value}
 use Rattle.rl_wire.specs.Payload.{styles_value, payload_values, items_of, array_of, payload_text}
+use Rattle.rl_wire.specs.declared.part.Part.{Part}
 use Rattle.rl_wire.specs.declared.part.Part.TheVariants.{Impl, State}
-use Rattle.rl_wire.specs.Line.{arguments_text, arguments_of, ArgumentsReadBack}
-use Rattle.rl_wire.proofs.Printed.{in_brackets}
+use Rattle.rl_wire.specs.Line.{arguments_text, arguments_of, AreInOrder, ReadBack, ArgumentsReadBack}
+use Rattle.rl_wire.proofs.PrintedLemmas.{in_brackets}
 
 -- the text of a value is read as that value, where its numbers are numbers and its keys ascend
-reads_back : (d : Data) → tree.HasNumbers (outline d) → tree.depth (outline d) ≤ 127 → of_json (outline d) ≡ Some d → read (compact_text d) ≡ Some d
+reads_back : (d : Data) → tree.HasNumbers (outline d) → tree.depth (outline d) ≤ 127 → of_json (outline d) ≡ Some d →
+    read (compact_text d) ≡ Some d
 reads_back d numbers shallow same =
     let written : tokens (compact_text d) ≡ tree.json_tokens (outline d) ++ [] =
-    ap tokens (sym (print-outline d)) ∙ tokens-print (tree.json_tokens (outline d)) (ArePrintable-json_tokens (outline d) numbers) ∙ sym (append-nil (tree.json_tokens (outline d))) in
+    ap tokens (sym (print-outline d)) ∙ tokens-print (tree.json_tokens (outline d)) (ArePrintable-json_tokens (outline d) numbers)
+    ∙ sym (append-nil (tree.json_tokens (outline d))) in
     ap (λ (ts : List Token). option_and_then of_json (option_and_then (λ p. json.if_last p.0 p.1) (json.value max_depth ts))) written
     ∙ ap (λ o. option_and_then of_json (option_and_then (λ p. json.if_last p.0 p.1) o)) (value-json_tokens (outline d) max_depth [] shallow)
     ∙ same
@@ -34,7 +37,8 @@ reads_back d numbers shallow same =
 -- ---- objects of texts
 
 -- a key above all that are there goes last
-put_last : (ms : List Message) (m : Message) → AllByRecursion (λ (n : Message). slice_cmp nat_cmp n.key m.key ≡ Less) ms → put m.key (string m.text) (members_of ms) ≡ members_of (ms ++ m ∷ [])
+put_last : (ms : List Message) (m : Message) → AllByRecursion (λ (n : Message). slice_cmp nat_cmp n.key m.key ≡ Less) ms →
+    put m.key (string m.text) (members_of ms) ≡ members_of (ms ++ m ∷ [])
 put_last [] m below = refl
 put_last (n ∷ ms) m below =
     let above : slice_cmp nat_cmp m.key n.key ≡ Greater = nat_list_cmp_total.antisymm m.key n.key ∙ ap ordering_reverse below.0 in
@@ -44,7 +48,8 @@ put_last (n ∷ ms) m below =
 AreBelow : List Message → List Message → Type 0
 AreBelow ms ns = AllByRecursion (λ (n : Message). AllByRecursion (λ (m : Message). slice_cmp nat_cmp m.key n.key ≡ Less) ms) ns
 
-one_more_below : (done : List Message) (m n : Message) → AllByRecursion (λ (d : Message). slice_cmp nat_cmp d.key n.key ≡ Less) done → slice_cmp nat_cmp m.key n.key ≡ Less
+one_more_below : (done : List Message) (m n : Message) → AllByRecursion (λ (d : Message). slice_cmp nat_cmp d.key n.key ≡ Less) done →
+    slice_cmp nat_cmp m.key n.key ≡ Less
     → AllByRecursion (λ (d : Message). slice_cmp nat_cmp d.key n.key ≡ Less) (done ++ m ∷ [])
 one_more_below [] m n h k = (k, tt)
 one_more_below (d ∷ done) m n h k = (h.0, one_more_below done m n h.1 k)
@@ -58,7 +63,8 @@ regroup : (done : List Message) (m : Message) (ms : List Message) → (done ++ m
 regroup [] m ms = refl
 regroup (d ∷ done) m ms = ap (λ l. d ∷ l) (regroup done m ms)
 
-of_members-messages : (done ms : List Message) → AreBelow done ms → AreAscending ms → of_members (members_outline (members_of ms)) (members_of done) ≡ Some (members_of (done ++ ms))
+of_members-messages : (done ms : List Message) → AreBelow done ms → AreAscending ms →
+    of_members (members_outline (members_of ms)) (members_of done) ≡ Some (members_of (done ++ ms))
 unfolding AreBelow
 of_members-messages done [] below ascending = ap (λ l. Some (members_of l)) (sym (append-nil done))
 of_members-messages done (m ∷ ms) below ascending =
@@ -95,7 +101,8 @@ Plain-styles (b ∷ bs) = record { numbers = ((tt, tt), tt); shallow = omega ari
 
 Plain-messages : (messages : List Message) → AreAscending messages → Plain (messages_value messages)
 Plain-messages messages ascending =
-    let shown : of_members (members_outline (members_of messages)) no_members ≡ Some (members_of messages) = of_members-messages [] messages (none_below messages) ascending in
+    let shown : of_members (members_outline (members_of messages)) no_members
+    ≡ Some (members_of messages) = of_members-messages [] messages (none_below messages) ascending in
     record { numbers = numbers-messages messages; shallow = omega (arith, depth-messages messages); same = rw shown refl }
 
 numbers-items : (ds : List Data) → AllByRecursion Plain ds → tree.ItemsHaveNumbers (items_outline (items_of ds))
@@ -124,6 +131,11 @@ bracketed ds plain = ap read (sym (in_brackets ds)) ∙ array_reads_back ds plai
 
 pub arguments_read_back : ArgumentsReadBack
 arguments_read_back (Impl name version script styles messages) ascending =
-    bracketed (arguments_of (Impl name version script styles messages)) (Plain-string _, (Plain-string script, (Plain-styles styles, (Plain-messages messages ascending, tt))))
+    bracketed (arguments_of (Impl name version script styles messages))
+    (Plain-string _, (Plain-string script, (Plain-styles styles, (Plain-messages messages ascending, tt))))
 arguments_read_back (State name kind) ascending =
     bracketed (arguments_of (State name kind)) (record { numbers = (tt, tt); shallow = omega arith; same = refl }, tt)
+
+pub all_read_back : (parts : List Part) → AreInOrder parts → AllByRecursion ReadBack parts
+all_read_back [] ordered = tt
+all_read_back (part ∷ parts) ordered = (arguments_read_back part ordered.0, all_read_back parts ordered.1)
