@@ -1,2 +1,2 @@
-pub mod AllNames
-pub mod Known
+pub mod AllNamesLemmas
+pub mod KnownLemmas

@@ -1,3 +1,4 @@
+//! How modules are seen.
 ghost use Rattle.std.specs.Prelude.{◌≡◌, IfOk};
 ghost use Rattle.rl_build.specs.Context.{context_of, language_of, skin_of};
 

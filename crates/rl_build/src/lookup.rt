@@ -1,5 +1,5 @@
 //! Look-ups by name in a context.
-ghost use Rattle.std.specs.Prelude.{◌≡◌, IfOk, IfSome, OnOk, is_some, option_map, map};
+ghost use Rattle.std.specs.Prelude.{◌≡◌, IfOk, IfSome, is_some, option_map};
 ghost use Rattle.rl_defs.specs.Catalogue.{module_named};
 ghost use Rattle.rl_wire.specs.Message.{AreAscending};
 ghost use Rattle.rl_build.specs.Sheet.{sheet_of, sheet_of_module, AreAllNames};

@@ -1,3 +1,4 @@
+//! What a module brings to a page, and its version.
 ghost use Rattle.std.specs.Prelude.{◌≡◌, IfOk};
 ghost use Rattle.rl_wire.specs.Message.{AreAscending};
 ghost use Rattle.rl_build.specs.Payload.{version_of};

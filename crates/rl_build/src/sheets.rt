@@ -1,3 +1,4 @@
+//! What is known of a module without its texts.
 use rl_names::{Seq, Text};
 
 /// What is known of a module without its texts.

@@ -1,4 +1,5 @@
-ghost use Rattle.std.specs.Prelude.{◌≡◌, ◌++◌, IfOk, OnOk, string_bytes, map};
+//! The texts of files one after another, and names as texts.
+ghost use Rattle.std.specs.Prelude.{◌≡◌, ◌++◌, IfOk, OnOk, string_bytes};
 ghost use Rattle.rl_names.specs.Packing.{distinct as distinct_of};
 ghost use Rattle.rl_build.specs.Payload.{file_lines, joined as joined_of};
 

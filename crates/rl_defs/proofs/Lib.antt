@@ -1,5 +1,5 @@
-pub mod Counting
-pub mod Drafts
-pub mod Search
-pub mod Settling
-pub mod Taking
+pub mod CountingLemmas
+pub mod DraftsLemmas
+pub mod SearchLemmas
+pub mod SettlingLemmas
+pub mod TakingLemmas

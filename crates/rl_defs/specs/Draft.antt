@@ -1,6 +1,7 @@
 -- What a definitions file says: as it is written, and as it is kept once every check has passed.
-use Rattle.std.specs.Prelude.{ℕ, ◌≤◌, Bool, ◌&&◌, List, [], ◌∷◌, map, unwrap_or, codes, false}
+use Rattle.std.specs.Prelude.{ℕ, ◌≤◌, Bool, ◌&&◌, List, [], ◌∷◌, map, unwrap_or, codes, true, false, IsTrue}
 use Rattle.std.specs.List.{list_all, filter_map}
+use Rattle.std.specs.Option.{option_map_or}
 use Rattle.toml.specs.Data.{Data, Members, no_members, as_str, as_table}
 use Rattle.rl_defs.specs.declared.draft.Draft.{Draft}
 use Rattle.rl_defs.specs.declared.draft.ModuleDraft.{ModuleDraft}
@@ -11,7 +12,7 @@ use Rattle.rl_names.specs.Name.{is_name}
 use Rattle.rl_names.specs.Title.{user_name_of}
 use Rattle.rl_defs.specs.Named.{AreNames}
 use Rattle.rl_defs.specs.Catalogue.{Catalogue}
-use Rattle.rl_defs.specs.Reading.{pairs, table_at, texts_at, text_at, number_at}
+use Rattle.rl_defs.specs.Reading.{pairs, table_at, texts_at, text_at, number_at, is_feature, feature_at}
 
 abbrev pub file_draft : List ℕ × Data → File
 file_draft (name, d) = record { name = name; text = unwrap_or (as_str d) [] }
@@ -23,7 +24,7 @@ module_draft (name, d) = let ms = unwrap_or (as_table d) no_members in record {
   dependencies = texts_at (codes "dependencies") ms;
   group = unwrap_or (text_at (codes "group") ms) [];
   source = unwrap_or (text_at (codes "source") ms) (codes "local");
-  skip = text_at (codes "skip") ms;
+  skip = feature_at (codes "skip") ms;
 }
 
 abbrev pub files_of : Members → List File
@@ -49,10 +50,15 @@ draft_of top = let wiki = table_at (codes "wiki") top in record {
   modules = modules_of (table_at (codes "modules") top);
 }
 
+-- a module is skipped for a feature, or for nothing
+abbrev pub may_skip : ModuleDraft → Bool
+may_skip m = option_map_or is_feature m.skip true
+
 -- what holds of every draft
 pub record IsDraft (d : Draft) : Type 0 where
   pub files : AreNames (map (λ f. f.name) d.files)
   pub modules : AreNames (map (λ m. m.name) d.modules)
+  pub features : IsTrue (list_all may_skip d.modules)
   pub least_limit : 200 ≤ d.limit
   pub most_limit : d.limit ≤ 4000
   pub most_version : d.store_version ≤ 1000000

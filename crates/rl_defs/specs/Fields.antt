@@ -1,13 +1,9 @@
 -- The fields of the tables of a definitions file, each with the kind of its value.
-use Rattle.std.specs.Prelude.{ℕ, Bool, false, ◌&&◌, ◌||◌, nat_le, if◌then◌else◌, List, length, is_some, unwrap_or, option_map, bytes_eq, codes}
+use Rattle.std.specs.Prelude.{ℕ, Bool, false, ◌||◌, if◌then◌else◌, List, is_some, option_and_then, bytes_eq, codes}
 use Rattle.toml.specs.Data.{Data, as_str}
 use Rattle.rl_defs.specs.declared.fields.Fields.{Fields}
 use Rattle.rl_defs.specs.declared.fields.Fields.TheVariants.{Files, Module, Wiki}
-use Rattle.rl_defs.specs.Reading.{is_text_list, number_of}
-
--- a feature that a module is skipped for: 1 to 100 bytes
-abbrev pub is_feature : Data → Bool
-is_feature d = unwrap_or (option_map (λ text. nat_le 1 (length text) && nat_le (length text) 100) (as_str d)) false
+use Rattle.rl_defs.specs.Reading.{if_feature, is_text_list, number_of}
 
 -- the fields of the table `wiki`
 abbrev pub is_wiki_field : List ℕ → Data → Bool
@@ -21,7 +17,7 @@ abbrev pub is_module_field : List ℕ → Data → Bool
 is_module_field key d =
     if bytes_eq key (codes "scripts") || bytes_eq key (codes "dependencies") then is_text_list d
     else (if bytes_eq key (codes "group") || bytes_eq key (codes "source") then is_some (as_str d)
-    else (if bytes_eq key (codes "skip") then is_feature d else false))
+    else (if bytes_eq key (codes "skip") then is_some (option_and_then if_feature (as_str d)) else false))
 
 -- a table's fields, by whose they are: a file is a text under any name
 abbrev pub is_field : Fields → List ℕ → Data → Bool

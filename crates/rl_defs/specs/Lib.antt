@@ -5,4 +5,5 @@ pub mod Draft
 pub mod Fields
 pub mod Named
 pub mod Reading
+pub mod Refusal
 pub mod Words

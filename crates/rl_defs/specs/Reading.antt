@@ -1,5 +1,6 @@
 -- What stands at a key of a TOML table. A value that is not of the kind asked for is read as if it were absent.
-use Rattle.std.specs.Prelude.{◌≡◌, ℕ, pos, Bool, true, false, ◌&&◌, nat_le, if◌then◌else◌, List, [], ◌∷◌, ◌++◌, Option, Some, None, is_some, unwrap_or, option_map, option_and_then, option_to_list, bytes_eq}
+use Rattle.std.specs.Prelude.{◌≡◌, ℕ, pos, Bool, true, false, ◌&&◌, nat_le, if◌then◌else◌, List, [], ◌∷◌, ◌++◌, length, Option}
+use Rattle.std.specs.Prelude.{Some, None, is_some, unwrap_or, option_map, option_and_then, option_to_list, bytes_eq}
 use Rattle.std.specs.Str.{is_utf8}
 use Rattle.toml.specs.Data.{Data, integer, array, Items, no_items, item, Members, no_members, member, get_member, as_str, as_table}
 use Rattle.toml.specs.Parse.{parse_document}
@@ -37,6 +38,13 @@ abbrev pub number_of : ℕ → ℕ → Data → Option ℕ
 number_of least most (integer (pos n)) = if nat_le least n && nat_le n most then Some n else None
 number_of least most _ = None
 
+-- a feature that a module is skipped for: 1 to 100 bytes
+abbrev pub is_feature : List ℕ → Bool
+is_feature text = nat_le 1 (length text) && nat_le (length text) 100
+
+abbrev pub if_feature : List ℕ → Option (List ℕ)
+if_feature text = if is_feature text then Some text else None
+
 -- what stands at a key: a table, a list of texts, a text, a number in a range
 abbrev pub table_at : List ℕ → Members → Members
 table_at key ms = unwrap_or (option_and_then as_table (get_member key ms)) no_members
@@ -46,6 +54,9 @@ texts_at key ms = unwrap_or (option_map texts_of (get_member key ms)) []
 
 abbrev pub text_at : List ℕ → Members → Option (List ℕ)
 text_at key ms = option_and_then as_str (get_member key ms)
+
+abbrev pub feature_at : List ℕ → Members → Option (List ℕ)
+feature_at key ms = option_and_then if_feature (text_at key ms)
 
 abbrev pub number_at : List ℕ → ℕ → ℕ → Members → Option ℕ
 number_at key least most ms = option_and_then (number_of least most) (get_member key ms)

@@ -1,10 +1,14 @@
-ghost use Rattle.std.specs.Prelude.{◌≡◌, ◌≢◌, ◌<◌, ◌≤◌, length, map, slice_get, bytes_eq, option_and_then, option_copied, option_map, IsNone, IsTrue, IfErr, IfOk, Some, None, Ok, Err};
-ghost use Rattle.std.specs.List.{list_all, position};
+//! What definitions say, once every check has passed.
+ghost use Rattle.std.specs.Prelude.{◌≡◌, ◌<◌, ◌≤◌, length, map, slice_get, bytes_eq, option_and_then, option_copied, option_map, IsNone};
+ghost use Rattle.std.specs.Prelude.{IsTrue, IfOk, Some, None, Ok};
+ghost use Rattle.std.specs.List.{AllByRecursion, list_all, position};
+ghost use Rattle.rl_names.specs.Meant.{Gives};
 ghost use Rattle.rl_names.specs.Title.{is_user_name};
 ghost use Rattle.rl_defs.specs.Ascending.{IsAscending};
 ghost use Rattle.rl_defs.specs.Breach.{breach_of, reading};
-ghost use Rattle.rl_defs.specs.Catalogue.{file_of, module_named, IsCatalogue};
+ghost use Rattle.rl_defs.specs.Catalogue.{file_of, module_named, IsCatalogue, IsModule};
 ghost use Rattle.rl_defs.specs.Draft.{catalogue_of, IsDraft};
+ghost use Rattle.rl_defs.specs.Refusal.{refusal_told};
 
 use crate::checks::check_draft;
 use crate::draft::{Draft, settled_modules};
@@ -61,8 +65,7 @@ impl Model for Catalog {
 impl Catalog {
     /// Reads a definitions file, or tells the first breach of its checks in their order.
     pub fn read(alloc: Global, bytes: &[u8]) -> Result<Catalog, CatalogError>
-        ensures ok { IfOk result (λ c. reading bytes.now ≡ Ok c) }
-        ensures refused { IfErr result (λ e. e ≢ CatalogError.NoMemory → reading bytes.now ≡ Err e) }
+        ensures { Gives refusal_told result (reading bytes.now) }
     {
         let root = document(alloc, bytes)?;
         check_fields(alloc, &root)?;
@@ -104,6 +107,8 @@ impl Catalog {
     /// How many modules are defined.
     pub fn module_count(&self) -> u32
         ensures count { result ≡ length self.now.modules }
+
+        // What is known of every catalogue and of each of its modules.
         ensures whole { IsCatalogue self.now }
     {
         self.modules.as_slice().len() as u32
@@ -112,7 +117,8 @@ impl Catalog {
     /// A module by its place. The modules are in byte order of their names.
     pub fn module_at(&self, at: u32) -> &ModuleDef
         requires { at < length self.now.modules }
-        ensures { slice_get self.now.modules at ≡ Some result.now }
+        ensures value { slice_get self.now.modules at ≡ Some result.now }
+        ensures lawful { IsModule self.now.files result.now }
     {
         &self.modules.as_slice()[at as usize]
     }
@@ -121,6 +127,7 @@ impl Catalog {
     pub fn modules(&self) -> &[ModuleDef]
         ensures value { result.now ≡ self.now.modules }
         ensures ascending { IsAscending (map (λ m. m.name) self.now.modules) }
+        ensures lawful { AllByRecursion (IsModule self.now.files) self.now.modules }
     {
         self.modules.as_slice()
     }

@@ -1,30 +1,22 @@
-// The checks of names, counts, dependencies, files, sources and sizes, in their order.
+//! The checks of names, counts, dependencies, files, sources and sizes, in their order.
 ghost use Rattle.std.specs.Prelude.{◌≡◌, ◌+◌, ◌-◌, ◌^◌, map, min, option_copied};
 ghost use Rattle.rl_defs.specs.Named.{AreNames};
 ghost use Rattle.rl_defs.specs.Breach as spec;
 ghost use Rattle.rl_defs.specs.Draft.{IsDraft};
-ghost use Rattle.rl_defs.specs.Breach.{Checks};
+ghost use Rattle.rl_names.specs.Meant.{Checks};
+ghost use Rattle.rl_defs.specs.Refusal.{refusal_told};
 
 use crate::draft::{Draft, ModuleDraft};
 use crate::error::CatalogError;
 use crate::named::find_named;
 use crate::words::{is_built_in, is_definable, is_gadget, is_skin, user_name};
-use rl_names::{Counted, Name, Text};
+use rl_names::{Counted, MAX_DEPENDENCIES, MAX_LISTED_BYTES, MAX_MODULES, Name, Text};
 use std::alloc::Global;
-
-/// The most modules that a file may define.
-const MOST_MODULES: usize = 3500;
-
-/// The most dependencies that a module may have.
-const MOST_DEPENDENCIES: usize = 256;
-
-/// The most bytes that listed files may have together.
-const MOST_BYTES: u64 = 67_108_864;
 
 /// The first breach of a draft whose fields are known.
 pub(crate) fn check_draft(alloc: Global, draft: &Draft) -> Result<(), CatalogError>
     requires { IsDraft draft.now }
-    ensures { Checks result (spec.breach_of draft.now) }
+    ensures { Checks refusal_told result (spec.breach_of draft.now) }
 {
     check_names(alloc, draft)?;
     check_counts(draft)?;
@@ -35,7 +27,7 @@ pub(crate) fn check_draft(alloc: Global, draft: &Draft) -> Result<(), CatalogErr
 }
 
 fn check_names(alloc: Global, draft: &Draft) -> Result<(), CatalogError>
-    ensures { Checks result (spec.bad_name draft.now) }
+    ensures { Checks refusal_told result (spec.bad_name draft.now) }
 {
     check_module_names(draft.modules.as_slice())?;
     check_admins(alloc, draft.admins.as_slice())?;
@@ -43,7 +35,7 @@ fn check_names(alloc: Global, draft: &Draft) -> Result<(), CatalogError>
 }
 
 fn check_module_names(modules: &[ModuleDraft]) -> Result<(), CatalogError>
-    ensures { Checks result (spec.bad_module_name modules.now) }
+    ensures { Checks refusal_told result (spec.bad_module_name modules.now) }
 {
     'modules: for module in modules {
         if !is_definable(module.name.as_str()) {
@@ -56,7 +48,7 @@ fn check_module_names(modules: &[ModuleDraft]) -> Result<(), CatalogError>
 }
 
 fn check_admins(alloc: Global, admins: &[Text]) -> Result<(), CatalogError>
-    ensures { Checks result (spec.bad_admin admins.now) }
+    ensures { Checks refusal_told result (spec.bad_admin admins.now) }
 {
     'admins: for admin in admins {
         if user_name(alloc, admin.as_str())?.is_none() {
@@ -69,7 +61,7 @@ fn check_admins(alloc: Global, admins: &[Text]) -> Result<(), CatalogError>
 }
 
 fn check_skins(skins: &[Text]) -> Result<(), CatalogError>
-    ensures { Checks result (spec.bad_skin skins.now) }
+    ensures { Checks refusal_told result (spec.bad_skin skins.now) }
 {
     'skins: for skin in skins {
         if !is_skin(skin.as_str()) {
@@ -80,27 +72,28 @@ fn check_skins(skins: &[Text]) -> Result<(), CatalogError>
 }
 
 fn check_counts(draft: &Draft) -> Result<(), CatalogError>
-    ensures { Checks result (spec.too_many draft.now) }
+    ensures { Checks refusal_told result (spec.too_many draft.now) }
 {
     let modules = draft.modules.as_slice();
-    if modules.len() > MOST_MODULES {
+    let count = modules.len() as u64;
+    if count > MAX_MODULES {
         return Err(CatalogError::TooMany {
             what: Counted::Modules,
-            count: modules.len() as u64,
+            count,
         });
     }
     check_dependency_counts(modules)
 }
 
 fn check_dependency_counts(modules: &[ModuleDraft]) -> Result<(), CatalogError>
-    ensures { Checks result (spec.too_many_dependencies modules.now) }
+    ensures { Checks refusal_told result (spec.too_many_dependencies modules.now) }
 {
     'modules: for module in modules {
-        let count = module.dependencies.as_slice().len();
-        if count > MOST_DEPENDENCIES {
+        let count = module.dependencies.as_slice().len() as u64;
+        if count > MAX_DEPENDENCIES {
             return Err(CatalogError::TooMany {
                 what: Counted::Dependencies,
-                count: count as u64,
+                count,
             });
         }
     }
@@ -109,7 +102,7 @@ fn check_dependency_counts(modules: &[ModuleDraft]) -> Result<(), CatalogError>
 
 fn check_dependencies(draft: &Draft) -> Result<(), CatalogError>
     requires { AreNames (map (λ m. m.name) draft.now.modules) }
-    ensures { Checks result (spec.bad_dependency draft.now) }
+    ensures { Checks refusal_told result (spec.bad_dependency draft.now) }
 {
     'modules: for module in draft.modules.as_slice() {
         check_dependencies_of(draft, module)?;
@@ -119,7 +112,7 @@ fn check_dependencies(draft: &Draft) -> Result<(), CatalogError>
 
 fn check_dependencies_of(draft: &Draft, module: &ModuleDraft) -> Result<(), CatalogError>
     requires { AreNames (map (λ m. m.name) draft.now.modules) }
-    ensures { Checks result (spec.bad_dependency_of draft.now module.now) }
+    ensures { Checks refusal_told result (spec.bad_dependency_of draft.now module.now) }
 {
     'names: for name in module.dependencies.as_slice() {
         if !is_dependency(draft, name) {
@@ -151,7 +144,7 @@ fn is_defined(draft: &Draft, name: &Text) -> bool
 
 fn check_files(draft: &Draft) -> Result<(), CatalogError>
     requires { AreNames (map (λ f. f.name) draft.now.files) }
-    ensures { Checks result (spec.no_file draft.now) }
+    ensures { Checks refusal_told result (spec.no_file draft.now) }
 {
     'modules: for module in draft.modules.as_slice() {
         check_files_of(draft, module)?;
@@ -161,7 +154,7 @@ fn check_files(draft: &Draft) -> Result<(), CatalogError>
 
 fn check_files_of(draft: &Draft, module: &ModuleDraft) -> Result<(), CatalogError>
     requires { AreNames (map (λ f. f.name) draft.now.files) }
-    ensures { Checks result (spec.no_file_of draft.now module.now) }
+    ensures { Checks refusal_told result (spec.no_file_of draft.now module.now) }
 {
     'files: for file in module.scripts.as_slice() {
         if text_of(draft, file).is_none() {
@@ -184,7 +177,7 @@ fn text_of<'a>(draft: &'a Draft, name: &Text) -> Option<&'a Text>
 }
 
 fn check_sources(draft: &Draft) -> Result<(), CatalogError>
-    ensures { Checks result (spec.bad_source draft.now) }
+    ensures { Checks refusal_told result (spec.bad_source draft.now) }
 {
     'modules: for module in draft.modules.as_slice() {
         if module.source.as_str() != "local" {
@@ -198,10 +191,10 @@ fn check_sources(draft: &Draft) -> Result<(), CatalogError>
 
 fn check_size(draft: &Draft) -> Result<(), CatalogError>
     requires { AreNames (map (λ f. f.name) draft.now.files) }
-    ensures { Checks result (spec.too_large draft.now) }
+    ensures { Checks refusal_told result (spec.too_large draft.now) }
 {
     let count = listed_bytes(draft);
-    if count > MOST_BYTES {
+    if count > MAX_LISTED_BYTES {
         return Err(CatalogError::TooMany {
             what: Counted::ListedBytes,
             count,

@@ -1,14 +1,18 @@
+//! What definitions say as they are written, before their names are read.
 ghost use Rattle.std.specs.Prelude.{◌≡◌, ◌≤◌, map, string_bytes, unwrap_or, IfOk, IsTrue};
 ghost use Rattle.std.specs.List.{list_all};
 ghost use Rattle.rl_names.specs.Name.{is_name};
 ghost use Rattle.toml.specs.View.{view, table_view};
 ghost use Rattle.rl_defs.specs.Named.{AreNames};
-ghost use Rattle.rl_defs.specs.Draft.{file_draft, module_draft, draft_of, files_of as files_in, modules_of as modules_in, limit_of as limit_in, store_version_of as store_version_in, module_of, has_names, IsDraft};
+ghost use Rattle.rl_defs.specs.Draft.{file_draft, module_draft, draft_of, files_of as files_in, modules_of as modules_in, limit_of as limit_in};
+ghost use Rattle.rl_defs.specs.Draft.{store_version_of as store_version_in, module_of, has_names, may_skip, IsDraft};
 
 use crate::file::File;
 use crate::module_def::ModuleDef;
 use crate::named::Named;
-use crate::reading::{number_at, table_of, take_table, take_text, take_texts, text_of};
+use crate::reading::{
+    number_at, table_of, take_feature, take_table, take_text, take_texts, text_of,
+};
 use rl_names::{Name, NoMemory, Seq, Text};
 use std::alloc::Global;
 use toml::{Table, Value};
@@ -82,6 +86,7 @@ fn file_of(alloc: Global, name: String, value: Value) -> Result<File, NoMemory>
 fn modules_of(alloc: Global, table: Table) -> Result<Seq<ModuleDraft>, NoMemory>
     ensures value { IfOk result (λ modules. modules ≡ modules_in (table_view table)) }
     ensures names { IfOk result (λ modules. AreNames (map (λ m. m.name) modules)) }
+    ensures features { IfOk result (λ modules. IsTrue (list_all may_skip modules)) }
 {
     let mut modules = Vec::with_capacity(alloc, table.len())?;
     'modules: for (name, value) in table {
@@ -123,7 +128,7 @@ impl ModuleDraft {
             dependencies: take_texts(alloc, &mut table, "dependencies")?,
             group: or_else(alloc, take_text(&mut table, "group"), "")?,
             source: or_else(alloc, take_text(&mut table, "source"), "local")?,
-            skip: take_text(&mut table, "skip"),
+            skip: take_feature(&mut table, "skip"),
         })
     }
 }

@@ -1,4 +1,8 @@
-use rl_names::{Counted, NoMemory, Text};
+//! Why definitions are refused.
+ghost use Rattle.std.specs.Prelude.{◌≡◌, option_and_then};
+ghost use Rattle.rl_defs.specs.Refusal.{refusal_told, rule_broken};
+
+use rl_names::{Counted, NoMemory, Rule, Text};
 use std::alloc::{AllocError, AllocFailed};
 use thiserror::Error;
 
@@ -37,6 +41,25 @@ pub enum CatalogError {
     BadSource { module: Text },
     #[error("out of memory")]
     NoMemory,
+}
+
+impl CatalogError {
+    /// The rule that the file breaks. None for a count above its limit, which is told by what is
+    /// counted, and none for want of memory.
+    pub fn rule(&self) -> Option<Rule>
+        ensures { result ≡ option_and_then rule_broken (refusal_told self.now) }
+    {
+        match self {
+            CatalogError::NotToml => Some(Rule::NotToml),
+            CatalogError::UnknownField { .. } => Some(Rule::UnknownField),
+            CatalogError::BadName { .. } => Some(Rule::BadName),
+            CatalogError::BadDependency { .. } => Some(Rule::BadDependency),
+            CatalogError::NoFile { .. } => Some(Rule::NoFile),
+            CatalogError::BadChain { .. } => Some(Rule::BadChain),
+            CatalogError::BadSource { .. } => Some(Rule::BadSource),
+            CatalogError::TooMany { .. } | CatalogError::NoMemory => None,
+        }
+    }
 }
 
 impl From<NoMemory> for CatalogError {

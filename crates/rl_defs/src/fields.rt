@@ -1,12 +1,15 @@
-// The second check: every table and key is known, and every value is of its kind and in its range.
-ghost use Rattle.std.specs.Prelude.{◌≡◌};
+//! The second check: every table and key is known, and every value is of its kind and in its range.
+ghost use Rattle.std.specs.Prelude.{◌≡◌, is_some, option_and_then};
+ghost use Rattle.toml.specs.Data.{as_str};
 ghost use Rattle.toml.specs.View.{view, array_view, table_view};
-ghost use Rattle.rl_defs.specs.Reading.{are_texts as are_texts_of, is_text_list as is_text_list_of};
-ghost use Rattle.rl_defs.specs.Fields.{is_feature as is_feature_of, is_wiki_field as is_wiki_field_of, is_module_field as is_module_field_of, is_field};
-ghost use Rattle.rl_defs.specs.Breach.{Checks, unknown_in, unknown_in_module, unknown_at, unknown_field, unknown_in_modules};
+ghost use Rattle.rl_defs.specs.Reading.{if_feature, are_texts as are_texts_of, is_text_list as is_text_list_of};
+ghost use Rattle.rl_defs.specs.Fields.{is_wiki_field as is_wiki_field_of, is_module_field as is_module_field_of, is_field};
+ghost use Rattle.rl_names.specs.Meant.{Checks};
+ghost use Rattle.rl_defs.specs.Refusal.{refusal_told};
+ghost use Rattle.rl_defs.specs.Breach.{unknown_in, unknown_in_module, unknown_at, unknown_field, unknown_in_modules};
 
 use crate::error::CatalogError;
-use crate::reading::number_of;
+use crate::reading::{is_feature, number_of};
 use rl_names::Text;
 use std::alloc::Global;
 use toml::value::Array;
@@ -50,7 +53,7 @@ fn is_module_field(key: &str, value: &Value) -> bool
     match key {
         "scripts" | "dependencies" => is_text_list(value),
         "group" | "source" => value.is_str(),
-        "skip" => is_feature(value),
+        "skip" => may_be_skip(value),
         _ => false,
     }
 }
@@ -75,11 +78,11 @@ fn are_texts(array: &Array) -> bool
     true
 }
 
-fn is_feature(value: &Value) -> bool
-    ensures { result ≡ is_feature_of (view value.now) }
+fn may_be_skip(value: &Value) -> bool
+    ensures { result ≡ is_some (option_and_then if_feature (as_str (view value.now))) }
 {
     match value.as_str() {
-        Some(text) => (1..=100).contains(&text.len()),
+        Some(text) => is_feature(text),
         None => false,
     }
 }
@@ -91,7 +94,7 @@ fn check_table(
     fields: Fields,
     table: &Table,
 ) -> Result<(), CatalogError>
-    ensures { Checks result (unknown_in owner.now fields (table_view table.now)) }
+    ensures { Checks refusal_told result (unknown_in owner.now fields (table_view table.now)) }
 {
     'members: for (key, value) in table.iter() {
         if !fields.has(key.as_str(), value) {
@@ -105,7 +108,7 @@ fn check_table(
 }
 
 fn check_module(alloc: Global, name: &str, value: &Value) -> Result<(), CatalogError>
-    ensures { Checks result (unknown_in_module (name.now, view value.now)) }
+    ensures { Checks refusal_told result (unknown_in_module (name.now, view value.now)) }
 {
     match value {
         Value::Table(table) => check_table(alloc, name, Fields::Module, table),
@@ -117,7 +120,7 @@ fn check_module(alloc: Global, name: &str, value: &Value) -> Result<(), CatalogE
 }
 
 fn check_modules(alloc: Global, modules: &Table) -> Result<(), CatalogError>
-    ensures { Checks result (unknown_in_modules (table_view modules.now)) }
+    ensures { Checks refusal_told result (unknown_in_modules (table_view modules.now)) }
 {
     'modules: for (name, value) in modules.iter() {
         check_module(alloc, name.as_str(), value)?;
@@ -127,7 +130,7 @@ fn check_modules(alloc: Global, modules: &Table) -> Result<(), CatalogError>
 
 /// The fields of one table of the file.
 fn check_top(alloc: Global, key: &str, value: &Value) -> Result<(), CatalogError>
-    ensures { Checks result (unknown_at (key.now, view value.now)) }
+    ensures { Checks refusal_told result (unknown_at (key.now, view value.now)) }
 {
     match (key, value) {
         ("files", Value::Table(table)) => check_table(alloc, "", Fields::Files, table),
@@ -143,7 +146,7 @@ fn check_top(alloc: Global, key: &str, value: &Value) -> Result<(), CatalogError
 /// The first table or key of the file that is not known, or whose value is not of its kind or
 /// out of its range.
 pub(crate) fn check_fields(alloc: Global, root: &Table) -> Result<(), CatalogError>
-    ensures { Checks result (unknown_field (table_view root.now)) }
+    ensures { Checks refusal_told result (unknown_field (table_view root.now)) }
 {
     'tables: for (key, value) in root.iter() {
         check_top(alloc, key.as_str(), value)?;

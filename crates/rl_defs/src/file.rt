@@ -1,3 +1,4 @@
+//! A file of the definitions.
 use crate::named::Named;
 use rl_names::Text;
 

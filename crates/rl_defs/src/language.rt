@@ -1,3 +1,4 @@
+//! A language of a wiki.
 use rl_names::{Seq, Text};
 
 /// A language: its code, the codes of the languages that stand in for it, in order, and whether it

@@ -1,3 +1,4 @@
+//! What definitions say of one module.
 use crate::named::Named;
 use rl_names::{Message, Name, Seq, Text};
 

@@ -1,3 +1,4 @@
+//! Look-ups among values that are in byte order of their names.
 ghost use Rattle.std.specs.Prelude.{◌≡◌, bytes_eq, find, map, option_and_then, option_copied, slice_get};
 ghost use Rattle.std.specs.List.{position};
 ghost use Rattle.rl_defs.specs.Named.{AreNames};

@@ -1,8 +1,9 @@
-// What stands at a key of a TOML table, moved out of it.
-ghost use Rattle.std.specs.Prelude.{◌≡◌, ◌≢◌, ◌≤◌, option_map, unwrap_or, IfErr, IfOk, IfSome, None, Some};
+//! What stands at a key of a TOML table, moved out of it.
+ghost use Rattle.std.specs.Prelude.{◌≡◌, ◌≤◌, option_map, unwrap_or, IfErr, IfOk, IfSome, None, Some};
 ghost use Rattle.toml.specs.Data.{as_str, as_table, get_member, no_members};
 ghost use Rattle.toml.specs.View.{view, table_view};
 ghost use Rattle.rl_defs.specs.Reading as spec;
+ghost use Rattle.rl_defs.specs.Refusal.{refusal_told, NotToml};
 
 use crate::error::CatalogError;
 use rl_names::{NoMemory, Seq, Text};
@@ -12,8 +13,8 @@ use toml::{Table, Value};
 /// The TOML document that the bytes are.
 pub(crate) fn document(alloc: Global, bytes: &[u8]) -> Result<Table, CatalogError>
     ensures ok { IfOk result (λ table. spec.document bytes.now ≡ Some (table_view table)) }
-    ensures refused { IfErr result (λ e. e ≢ CatalogError.NoMemory
-        → (e ≡ CatalogError.NotToml) × (spec.document bytes.now ≡ None)) }
+    ensures refused { IfErr result (λ e. IfSome (refusal_told e) (λ refusal.
+        (refusal ≡ NotToml) × (spec.document bytes.now ≡ None))) }
 {
     match toml::table_from_slice(alloc, bytes) {
         Ok(table) => Ok(table),
@@ -106,6 +107,22 @@ pub(crate) fn take_text(table: &mut Table, key: &str) -> Option<Text>
     ensures others { spec.KeepsOthers key.now (table_view table.old) (table_view table.new) }
 {
     text_of(take(table, key)?)
+}
+
+/// Whether a text may be a feature: 1 to 100 bytes.
+pub(crate) fn is_feature(text: &str) -> bool
+    ensures { result ≡ spec.is_feature text.now }
+{
+    (1..=100).contains(&text.len())
+}
+
+/// Takes the feature at a key out of a table.
+pub(crate) fn take_feature(table: &mut Table, key: &str) -> Option<Text>
+    ensures value { result ≡ spec.feature_at key.now (table_view table.old) }
+    ensures others { spec.KeepsOthers key.now (table_view table.old) (table_view table.new) }
+{
+    let text = take_text(table, key)?;
+    is_feature(text.as_str()).then_some(text)
 }
 
 /// The value at a key of a table.

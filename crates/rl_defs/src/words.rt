@@ -1,4 +1,4 @@
-// The words of a definitions file: the names of modules, users and skins.
+//! The words of a definitions file: the names of modules, users and skins.
 ghost use Rattle.std.specs.Prelude.{◌≡◌, IfOk};
 ghost use Rattle.std.specs.List.{list_all, filter_map};
 ghost use Rattle.rl_names.specs.Title.{user_name_of};

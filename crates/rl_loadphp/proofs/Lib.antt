@@ -1,3 +1,5 @@
-pub mod Made
-pub mod Pieces
-pub mod Sorting
+pub mod MadeLemmas
+pub mod PiecesLemmas
+pub mod SortingLemmas
+pub mod AskingLemmas
+pub mod IsolationLemmas

@@ -1,5 +1,8 @@
 -- The answer to a query for modules, or why there is none.
-use Rattle.std.specs.Prelude.{ℕ, ◌&&◌, nat_lt, if◌then◌else◌, List, length, map, bytes_eq, Result, Ok, Err}
+use Rattle.std.specs.Prelude.{ℕ, Bool, ◌&&◌, nat_lt, if◌then◌else◌, List, length, map, bytes_eq, Result, Ok, Err}
+use Rattle.rl_names.specs.Limits.{limit_of}
+use Rattle.rl_names.specs.declared.counted.Counted.{Counted}
+use Rattle.rl_names.specs.declared.counted.Counted.TheVariants.{QueryBytes, Names, AnswerBytes}
 use Rattle.rl_names.specs.Hash.{combined}
 use Rattle.rl_names.specs.Packing.{expand}
 use Rattle.rl_names.specs.declared.query.Query.{Query}
@@ -11,8 +14,7 @@ use Rattle.rl_build.specs.Payload.{version_of}
 use Rattle.rl_loadphp.specs.declared.answers.Kind.{Kind}
 use Rattle.rl_loadphp.specs.declared.answers.Kind.TheVariants.{Script, Style}
 use Rattle.rl_loadphp.specs.declared.answers.Answer.{Answer}
-use Rattle.rl_loadphp.specs.declared.answers.AnswerError.{AnswerError}
-use Rattle.rl_loadphp.specs.declared.answers.AnswerError.TheVariants.{QueryTooLong, TooManyNames, AnswerTooLong}
+use Rattle.rl_loadphp.specs.Refusal.{Refusal, QueryTooLong, TooManyNames, AnswerTooLong}
 use Rattle.rl_loadphp.specs.Served.{query_context, served, missing, payloads}
 use Rattle.rl_loadphp.specs.Body.{body_of}
 
@@ -42,17 +44,27 @@ answer_to c q = record {
   private = nat_lt 0 (length q.user);
 }
 
--- at most 64 MiB are sent
-abbrev pub unless_longer : Answer → Result Answer AnswerError
-unless_longer a = if nat_lt 67108864 (length a.body) then Err (AnswerTooLong (length a.body)) else Ok a
+-- there are more than may be
+abbrev pub are_too_many : Counted → ℕ → Bool
+are_too_many what count = nat_lt (limit_of what) count
 
--- at most 1,000 names are asked for, repeats counted
-abbrev pub unless_more : Catalogue → Query → Result Answer AnswerError
-unless_more c q =
-    if nat_lt 1000 (length (expand q.modules)) then Err (TooManyNames (length (expand q.modules)))
-    else unless_longer (answer_to c q)
+-- the query that bytes spell, where it may be asked: neither its bytes nor the names in it, repeats counted, are too
+-- many; of a query with too many bytes nothing else is looked at
+abbrev pub asked : List ℕ → Result Query Refusal
+asked bytes =
+    if are_too_many QueryBytes (length bytes) then Err (QueryTooLong (length bytes))
+    else (let q = query_of bytes in let count = length (expand q.modules) in
+    if are_too_many Names count then Err (TooManyNames count) else Ok q)
 
--- A query has at most 16 KiB. Of a longer one nothing else is looked at.
-abbrev pub answer_of : Catalogue → List ℕ → Result Answer AnswerError
-answer_of c bytes =
-    if nat_lt 16384 (length bytes) then Err (QueryTooLong (length bytes)) else unless_more c (query_of bytes)
+-- an answer is sent where its body is not too long
+abbrev pub sent : Answer → Result Answer Refusal
+sent a = if are_too_many AnswerBytes (length a.body) then Err (AnswerTooLong (length a.body)) else Ok a
+
+-- the answer to a query that may be asked
+abbrev pub answered : Catalogue → Result Query Refusal → Result Answer Refusal
+answered c (Ok q) = sent (answer_to c q)
+answered c (Err refusal) = Err refusal
+
+-- the answer to a query's bytes, or why there is none
+abbrev pub answer_of : Catalogue → List ℕ → Result Answer Refusal
+answer_of c bytes = answered c (asked bytes)

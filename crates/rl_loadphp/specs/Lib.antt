@@ -1,5 +1,7 @@
 pub mod Served
 pub mod Body
+pub mod Refusal
 pub mod Answer
+pub mod Isolation
 pub mod Sent
 pub mod Steps

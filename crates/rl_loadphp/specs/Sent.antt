@@ -27,7 +27,8 @@ pub data Piece (c : Catalogue) (q : Query) : List ℕ → Type 0 where
   implementation : (name : List ℕ) (p : Payload) → MaySend c q name p → Piece c q (line (implement_text name (version_of p) p.script p.styles p.messages))
   script : (name : List ℕ) (p : Payload) → MaySend c q name p → Piece c q p.script
   styles : (name : List ℕ) (p : Payload) → MaySend c q name p → Piece c q p.styles
-  state : (name word : List ℕ) → Contains (names_of q) name → Contains (codes "ready" ∷ codes "missing" ∷ []) word → Piece c q (line (state_text name word))
+  state : (name word : List ℕ) → Contains (names_of q) name → Contains (codes "ready" ∷ codes "missing" ∷ []) word →
+      Piece c q (line (state_text name word))
 
 abbrev pub IsMadeOfPieces : Catalogue → Query → List ℕ → Type 0
 IsMadeOfPieces c q body = (pieces : List (List ℕ)) × (body ≡ flat_map (λ piece. piece) pieces) × AllByRecursion (Piece c q) pieces

@@ -1,3 +1,4 @@
+//! What is sent for a query, and why nothing is.
 use rl_names::{NoMemory, Text};
 use std::alloc::AllocError;
 use thiserror::Error;

@@ -2,6 +2,7 @@
 #![tactic(auto)]
 
 pub mod answers;
+pub mod isolation;
 mod lines;
 pub mod requests;
 mod serving;
@@ -10,4 +11,4 @@ mod tests;
 mod texts;
 
 pub use answers::{Answer, AnswerError, Kind};
-pub use requests::{answer, read_context};
+pub use requests::{answer, read_context, read_query};

@@ -1,8 +1,11 @@
-ghost use Rattle.std.specs.Prelude.{◌≡◌, ◌≢◌, IfOk, IfErr, Ok, Err, map, string_bytes};
+//! The answer to a query, from its bytes.
+ghost use Rattle.std.specs.Prelude.{◌≡◌, IfOk, map, string_bytes};
+ghost use Rattle.rl_names.specs.Meant.{Gives};
 ghost use Rattle.rl_build.specs.Payload.{version_of};
 ghost use Rattle.rl_loadphp.specs.Served.{payloads, query_context};
 ghost use Rattle.rl_loadphp.specs.Body.{body_of};
-ghost use Rattle.rl_loadphp.specs.Answer.{answer_of, answer_to as answer_to_query, age_with, kind_of};
+ghost use Rattle.rl_loadphp.specs.Answer.{answer_of, answer_to as answer_to_query, age_with, asked, kind_of, sent};
+ghost use Rattle.rl_loadphp.specs.Refusal.{refusal_told};
 ghost use Rattle.rl_loadphp.specs.Sent.{IsMadeOfPieces};
 ghost use Rattle.rl_names.specs.Query.{query_of};
 
@@ -12,17 +15,11 @@ use crate::serving::{Asked, sort_out};
 use crate::texts::{scripts, styles, versions};
 use rl_build::Context;
 use rl_defs::Catalog;
-use rl_names::{NoMemory, Only, Query, Text, Version, combined, distinct, expand, expanded_count};
+use rl_names::{
+    MAX_ANSWER_BYTES, MAX_NAMES, MAX_QUERY_BYTES, NoMemory, Only, Query, Text, Version, combined,
+    distinct, expand, expanded_count,
+};
 use std::alloc::Global;
-
-/// The most bytes that a query may have.
-const MAX_QUERY: usize = 16_384;
-
-/// The most names that a query may have, repeats counted.
-const MAX_NAMES: usize = 1_000;
-
-/// The most bytes that an answer may have.
-const MAX_ANSWER: usize = 67_108_864;
 
 /// For how many seconds an answer may be kept that is what the query's version tells: 30 days.
 const LONG: u32 = 2_592_000;
@@ -139,33 +136,43 @@ fn answer_to(alloc: Global, catalog: &Catalog, query: &Query) -> Result<Answer, 
     })
 }
 
-/// The answer to the bytes of a query, for a viewer who is nobody. A query that is too long is not
-/// read, and where there are too many names they are counted and not made: a long front before many
-/// commas stands for much more text than the query has.
+/// The query that bytes spell, unless it is too long or has too many names. One that is too long is
+/// not read, and the names are counted and not made: a long front before many commas stands for much
+/// more text than the query has.
+pub fn read_query(alloc: Global, bytes: &[u8]) -> Result<Query, AnswerError>
+    ensures { Gives refusal_told result (asked bytes.now) }
+{
+    let len = bytes.len() as u64;
+    if len > MAX_QUERY_BYTES {
+        return Err(AnswerError::QueryTooLong { len });
+    }
+    let query = Query::read(alloc, bytes)?;
+    let count = expanded_count(query.modules.as_bytes()) as u64;
+    if count > MAX_NAMES {
+        return Err(AnswerError::TooManyNames { count });
+    }
+    Ok(query)
+}
+
+/// The answer, unless its body is too long to be sent.
+fn sent(answer: Answer) -> Result<Answer, AnswerError>
+    ensures { Gives refusal_told result (sent answer) }
+{
+    let len = answer.body.as_bytes().len() as u64;
+    if len > MAX_ANSWER_BYTES {
+        return Err(AnswerError::AnswerTooLong { len });
+    }
+    Ok(answer)
+}
+
+/// The answer to the bytes of a query, for a viewer who is nobody.
 pub fn answer(alloc: Global, catalog: &Catalog, query: &[u8]) -> Result<Answer, AnswerError>
-    ensures ok { IfOk result (λ a. answer_of catalog.now query.now ≡ Ok a) }
-    ensures refused { IfErr result (λ e. e ≢ AnswerError.NoMemory → answer_of catalog.now query.now ≡ Err e) }
+    ensures answer { Gives refusal_told result (answer_of catalog.now query.now) }
 
     // Nothing of a private module is sent, nor of one that another wiki serves, nor of another
     // user's.
     ensures pieces { IfOk result (λ a. IsMadeOfPieces catalog.now (query_of query.now) a.body) }
 {
-    if query.len() > MAX_QUERY {
-        return Err(AnswerError::QueryTooLong {
-            len: query.len() as u64,
-        });
-    }
-    let query = Query::read(alloc, query)?;
-    let count = expanded_count(query.modules.as_bytes());
-    if count > MAX_NAMES {
-        return Err(AnswerError::TooManyNames {
-            count: count as u64,
-        });
-    }
-    let answer = answer_to(alloc, catalog, &query)?;
-    let len = answer.body.as_bytes().len();
-    if len > MAX_ANSWER {
-        return Err(AnswerError::AnswerTooLong { len: len as u64 });
-    }
-    Ok(answer)
+    let query = read_query(alloc, query)?;
+    sent(answer_to(alloc, catalog, &query)?)
 }

@@ -1,6 +1,6 @@
 //! Which names are served.
 ghost use Rattle.std.specs.Prelude.{◌≡◌, IfOk, filter, not};
-ghost use Rattle.rl_loadphp.specs.Served.{is_served as is_served_of, may_serve as may_serve_of};
+ghost use Rattle.rl_loadphp.specs.Served.{is_served as is_served_of};
 
 use rl_build::{Context, group_and_source};
 use rl_defs::Catalog;

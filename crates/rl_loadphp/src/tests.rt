@@ -1,8 +1,7 @@
 //! Answers as they are worked out by hand, and each refusal at its limit.
 
-use crate::{Answer, AnswerError, Kind, answer, read_context};
+use crate::{Answer, AnswerError, Kind, answer, read_context, read_query};
 use rl_defs::Catalog;
-use rl_names::Query;
 use std::alloc::Global;
 use std::test::Fail;
 
@@ -182,7 +181,7 @@ fn contexts(rt: HostRuntime) -> Result<(), Fail> {
         ("lang=xx&skin=Vector&debug=yes", "qqx", "fallback", false),
         ("lang=en&lang=&debug=2&debug=", "qqx", "fallback", false),
     ] {
-        let query = Query::read(alloc, query.as_bytes())?;
+        let query = read_query(alloc, query.as_bytes())?;
         let ctx = read_context(alloc, &catalog, &query)?;
         assert_eq!(rt; ctx.lang.as_str(), lang);
         assert_eq!(rt; ctx.skin.as_str(), skin);

@@ -1,3 +1,4 @@
+//! What a catalogue that was read tells.
 use crate::{Catalog, Language, ModuleDef};
 use rl_names::{Name, Text};
 use std::alloc::Global;

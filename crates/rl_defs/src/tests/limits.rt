@@ -1,3 +1,4 @@
+//! Definitions at their limits.
 use super::compare;
 use std::alloc::Global;
 use std::test::Fail;

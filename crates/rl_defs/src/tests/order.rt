@@ -1,3 +1,4 @@
+//! The first of several breaches.
 use super::compare_all;
 use std::test::Fail;
 

@@ -1,4 +1,7 @@
+//! What each refused file is told.
 use super::{compare, compare_all};
+use crate::Catalog;
+use rl_names::Rule;
 use std::test::Fail;
 
 const NO_TOML: [&[u8]; 8] = [
@@ -189,4 +192,27 @@ fn refusals(rt: HostRuntime) -> Result<(), Fail> {
     compare_all(&rt, rt.alloc(), &NUMBERS)?;
     compare_all(&rt, rt.alloc(), &BAD_NAMES)?;
     compare_all(&rt, rt.alloc(), &WHAT_MODULES_NAME)
+}
+
+/// Files, each with the number of the rule that it breaks.
+const RULES: [(&str, u32); 7] = [
+    ("[", 11),
+    ("x = 1", 12),
+    ("[modules.startup]", 13),
+    ("[modules.a]\ndependencies = [\"q\"]", 14),
+    ("[modules.a]\nscripts = [\"q\"]", 15),
+    ("[modules.a]\nsource = \"q\"", 18),
+    ("", 0),
+];
+
+#[test]
+fn rules(rt: HostRuntime) -> Result<(), Fail> {
+    for (file, number) in &RULES {
+        let rule = match Catalog::read(rt.alloc(), file.as_bytes()) {
+            Ok(_) => None,
+            Err(error) => error.rule(),
+        };
+        assert_eq!(rt; rule, Rule::of(*number));
+    }
+    Ok(())
 }

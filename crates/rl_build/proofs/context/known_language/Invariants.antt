@@ -5,4 +5,5 @@ use Rattle.rl_build.proofs.context.known_language.Given as goal
 
 abbrev pub invariant-languages : goal.invariant-languages
 invariant-languages l =
-    list_any (λ (language : Language). bytes_eq language.code l.code) (drop l.language-index l.language-items) ≡ list_any (λ (language : Language). bytes_eq language.code l.code) l.language-items
+    list_any (λ (language : Language). bytes_eq language.code l.code) (drop l.language-index l.language-items)
+    ≡ list_any (λ (language : Language). bytes_eq language.code l.code) l.language-items

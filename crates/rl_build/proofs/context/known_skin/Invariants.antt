@@ -4,4 +4,5 @@ use Rattle.rl_build.proofs.context.known_skin.Given as goal
 
 abbrev pub invariant-skins : goal.invariant-skins
 invariant-skins l =
-    list_any (λ (skin : List ℕ). bytes_eq skin l.name) (drop l.skin-index l.skin-items) ≡ list_any (λ (skin : List ℕ). bytes_eq skin l.name) l.skin-items
+    list_any (λ (skin : List ℕ). bytes_eq skin l.name) (drop l.skin-index l.skin-items)
+    ≡ list_any (λ (skin : List ℕ). bytes_eq skin l.name) l.skin-items

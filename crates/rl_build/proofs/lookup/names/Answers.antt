@@ -2,7 +2,7 @@ use Rattle.std.proofs.Common.{◌≡◌, ℕ, List, map, subst, arith}
 use Rattle.std.proofs.lemmas.Grind.{common_steps}
 use Rattle.rl_defs.specs.declared.module_def.ModuleDef.{ModuleDef}
 use Rattle.rl_build.specs.Sheet.{AreAllNames}
-use Rattle.rl_build.proofs.AllNames.{names_have_sheets}
+use Rattle.rl_build.proofs.AllNamesLemmas.{names_have_sheets}
 use Rattle.rl_build.proofs.lookup.names.Goals as goal
 
 pub returns : goal.returns

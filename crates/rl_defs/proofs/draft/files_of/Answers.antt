@@ -3,7 +3,7 @@ use Rattle.toml.specs.View.{table_view}
 use Rattle.rl_defs.specs.declared.file.File.{File}
 use Rattle.rl_defs.specs.Named.{AreNames}
 use Rattle.rl_defs.specs.Draft.{files_of}
-use Rattle.rl_defs.proofs.Drafts.{file_names}
+use Rattle.rl_defs.proofs.DraftsLemmas.{file_names}
 use Rattle.rl_defs.proofs.draft.files_of.Goals as goal
 
 pub returns-clause-names : goal.returns-clause-names

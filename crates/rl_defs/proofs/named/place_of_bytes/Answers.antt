@@ -1,5 +1,5 @@
 use Rattle.std.proofs.Common.{sym}
-use Rattle.rl_defs.proofs.Search.{no_text_position, no_text_find}
+use Rattle.rl_defs.proofs.SearchLemmas.{no_text_position, no_text_find}
 use Rattle.rl_defs.proofs.named.place_of_bytes.Goals as goal
 
 -- no name is what is no text

@@ -9,11 +9,12 @@ returns-in-Ok-clause-ok c = rw (is_utf8-from_IsUtf8 c.args.bytes.now c.in-Ok.ens
 
 -- bytes that are no UTF-8 are no document, and toml refuses no other bytes that are one
 pub returns-in-Err-2-clause-refused : goal.returns-in-Err-2-clause-refused
-returns-in-Err-2-clause-refused c apart =
+returns-in-Err-2-clause-refused c =
     let text = c.args.bytes.now in (
       refl,
       elim (cases_Bool (is_utf8 text)) [
-        | inl valid ↦ rw valid (c.in-Err.ensures.refused (λ memory. false≢true (sym c.if-is_memory.false ∙ c.is_memory.ensures.1 memory)) (IsUtf8-from_is_utf8 text valid))
+        | inl valid ↦ rw valid (c.in-Err.ensures.refused (λ memory. false≢true (sym c.if-is_memory.false ∙ c.is_memory.ensures.1 memory))
+            (IsUtf8-from_is_utf8 text valid))
         | inr bad ↦ rw bad refl
       ],
     )

@@ -1,7 +1,7 @@
 use Rattle.std.proofs.Common.{◌∙◌, ap, option_map}
 use Rattle.toml.specs.View.{view}
 use Rattle.toml.proofs.Views.{view-lookup}
-use Rattle.rl_defs.proofs.Taking.{get_member-remove_entry}
+use Rattle.rl_defs.proofs.TakingLemmas.{get_member-remove_entry}
 use Rattle.rl_defs.proofs.reading.take.Goals as goal
 
 pub returns-clause-value : goal.returns-clause-value

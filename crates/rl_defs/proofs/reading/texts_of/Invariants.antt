@@ -6,4 +6,5 @@ use Rattle.rl_defs.proofs.reading.texts_of.Given as goal
 
 -- the texts so far, and those among the items that are left
 abbrev pub invariant-items : goal.invariant-items
-invariant-items l = l.texts.items ++ texts_among (items_view (into_iter_items l.item-iterator)) ≡ texts_among (items_view (into_iter_items l.initial.item-iterator))
+invariant-items l = l.texts.items ++ texts_among (items_view (into_iter_items l.item-iterator))
+    ≡ texts_among (items_view (into_iter_items l.initial.item-iterator))

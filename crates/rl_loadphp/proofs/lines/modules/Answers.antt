@@ -2,7 +2,7 @@ use Rattle.std.proofs.Common.{◌≡◌, ◌++◌, string_bytes, codes, sym, ap,
 use Rattle.std.specs.List.{flat_map}
 use Rattle.rl_loadphp.specs.Body.{states_text}
 use Rattle.rl_loadphp.specs.Steps.{line_of, version_in}
-use Rattle.rl_loadphp.proofs.Made.{all_made, wire-missing, versions-payloads}
+use Rattle.rl_loadphp.proofs.MadeLemmas.{all_made, wire-missing, versions-payloads}
 use Rattle.rl_loadphp.proofs.lines.modules.Goals as goal
 
 pub returns-clause-body : goal.returns-clause-body

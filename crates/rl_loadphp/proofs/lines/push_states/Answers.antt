@@ -1,6 +1,6 @@
 use Rattle.std.proofs.Common.{ℕ, List}
 use Rattle.rl_wire.specs.Line.{line, state_text}
-use Rattle.rl_loadphp.proofs.Made.{more_made}
+use Rattle.rl_loadphp.proofs.MadeLemmas.{more_made}
 use Rattle.rl_loadphp.proofs.lines.push_states.Goals as goal
 
 pub names-preserved : goal.names-preserved

@@ -4,7 +4,7 @@ use Rattle.rl_build.specs.Payload.{version_of}
 use Rattle.rl_loadphp.specs.Served.{names_of, query_context, served, missing, payloads}
 use Rattle.rl_loadphp.specs.Body.{body_of}
 use Rattle.rl_loadphp.specs.Answer.{age_with, age_of}
-use Rattle.rl_loadphp.proofs.Sorting.{served_names, missing_names, same_answer, told}
+use Rattle.rl_loadphp.proofs.SortingLemmas.{served_names, missing_names, same_answer, told}
 use Rattle.rl_loadphp.proofs.requests.answer_to.Goals as goal
 
 pub returns : goal.returns
@@ -15,8 +15,10 @@ returns c =
     let sorted = c.in_ok-names-2.names in
     let names : c.in_ok-names.names.items ≡ names_of q =
     c.in_ok-names.ensures ∙ ap distinct (c.deref.ensures.value ∙ c.in_ok-asked.ensures ∙ ap expand c.as_str.ensures) in
-    let these : sorted.served.items ≡ served catalog q = served_names catalog q ctx _ _ _ c.in_ok-ctx.ensures c.as_str-2.ensures names c.in_ok-names-2.ensures.served in
-    let others : sorted.missing.items ≡ missing catalog q = missing_names catalog q ctx _ _ _ c.in_ok-ctx.ensures c.as_str-2.ensures names c.in_ok-names-2.ensures.missing in
+    let these : sorted.served.items ≡ served catalog q = served_names catalog q ctx _ _ _ c.in_ok-ctx.ensures c.as_str-2.ensures names
+    c.in_ok-names-2.ensures.served in
+    let others : sorted.missing.items ≡ missing catalog q =
+    missing_names catalog q ctx _ _ _ c.in_ok-ctx.ensures c.as_str-2.ensures names c.in_ok-names-2.ensures.missing in
     let body : c.from_string.result ≡ body_of catalog (query_context catalog q) q.only (served catalog q) (missing catalog q) =
     c.from_string.ensures ∙ c.in_ok-made.ensures.body
     ∙ ap (λ x. body_of catalog x q.only sorted.served.items sorted.missing.items) c.in_ok-ctx.ensures

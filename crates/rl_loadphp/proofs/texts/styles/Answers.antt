@@ -1,6 +1,6 @@
 use Rattle.std.proofs.Common.{sym, ◌∙◌}
 use Rattle.rl_loadphp.specs.Steps.{styles_of}
-use Rattle.rl_loadphp.proofs.Made.{all_made, styles-payloads}
+use Rattle.rl_loadphp.proofs.MadeLemmas.{all_made, styles-payloads}
 use Rattle.rl_loadphp.proofs.texts.styles.Goals as goal
 
 pub returns : goal.returns

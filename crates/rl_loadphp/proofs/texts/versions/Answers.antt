@@ -1,6 +1,6 @@
 use Rattle.std.proofs.Common.{refl, sym, ◌∙◌}
 use Rattle.rl_loadphp.specs.Steps.{version_in}
-use Rattle.rl_loadphp.proofs.Made.{all_made, versions-payloads}
+use Rattle.rl_loadphp.proofs.MadeLemmas.{all_made, versions-payloads}
 use Rattle.rl_loadphp.proofs.texts.versions.Goals as goal
 
 pub returns : goal.returns

@@ -1,5 +1,6 @@
 -- What a binary search finds among values whose names ascend.
-use Rattle.std.proofs.Common.{◌≡◌, ℕ, zero, suc, ◌+◌, ◌<◌, Bool, true, false, List, [], ◌∷◌, length, get_or, map, Some, None, Result, Ok, Err, Ordering, Less, Equal, Greater, nat_cmp, is_eq, refl, ap, sym, subst, ◌∙◌, inl, inr, arith}
+use Rattle.std.proofs.Common.{◌≡◌, ℕ, zero, suc, ◌+◌, ◌<◌, Bool, true, false, List, [], ◌∷◌, length, get_or, map, Some, None, Result, Ok}
+use Rattle.std.proofs.Common.{Err, Ordering, Less, Equal, Greater, nat_cmp, is_eq, refl, ap, sym, subst, ◌∙◌, inl, inr, arith}
 use Rattle.std.specs.Prelude.{bytes_eq, option_and_then, slice_get}
 use Rattle.std.specs.List.{find, position, position_or_len}
 use Rattle.std.specs.List.Sorted.{IsSearchInRange, IsBinarySearchResult, IsNonDecreasingBy, IsPartitionPoint}
@@ -21,7 +22,8 @@ use Rattle.std.proofs.lemmas.List.Sums.{position_or_len_is}
 use Rattle.rl_defs.specs.Ascending.{IsAscending}
 
 -- what stands at a place, where nothing before it passes
-pub find_at : {X : Type 0} (p : X → Bool) (xs : List X) (i : ℕ) (d : X) → i < length xs → ((k : ℕ) → k < i → p (get_or xs k d) ≡ false) → p (get_or xs i d) ≡ true → find p xs ≡ slice_get xs i
+pub find_at : {X : Type 0} (p : X → Bool) (xs : List X) (i : ℕ) (d : X) → i < length xs → ((k : ℕ) → k < i → p (get_or xs k d) ≡ false) →
+    p (get_or xs i d) ≡ true → find p xs ≡ slice_get xs i
 find_at p [] i d within before here = absurd (omega arith)
 find_at p (x ∷ xs) zero d within before here = rw here
 find_at p (x ∷ xs) (suc i) d within before here =
@@ -35,7 +37,8 @@ find_nowhere : {X : Type 0} (p : X → Bool) (xs : List X) → NonePasses p xs �
 find_nowhere p [] none = refl
 find_nowhere p (x ∷ xs) none = rw (none 0 x (omega arith)) (find_nowhere p xs (λ k d lt. none (suc k) d (omega arith)))
 
-pub position_at : {X : Type 0} (p : X → Bool) (xs : List X) (i : ℕ) (d : X) → i < length xs → ((k : ℕ) → k < i → p (get_or xs k d) ≡ false) → p (get_or xs i d) ≡ true → position p xs ≡ Some i
+pub position_at : {X : Type 0} (p : X → Bool) (xs : List X) (i : ℕ) (d : X) → i < length xs → ((k : ℕ) → k < i → p (get_or xs k d) ≡ false) →
+    p (get_or xs i d) ≡ true → position p xs ≡ Some i
 position_at p xs i d within before here =
     let at : position_or_len p xs ≡ i = position_or_len_is p xs i d (omega arith) before (λ _. here) in
     rw at (grind (arith, nat_tests))
@@ -43,7 +46,8 @@ position_at p xs i d within before here =
 position_nowhere : {X : Type 0} (p : X → Bool) (xs : List X) → NonePasses p xs → position p xs ≡ None
 position_nowhere p [] none = refl
 position_nowhere p (x ∷ xs) none =
-    let at : position_or_len p (x ∷ xs) ≡ length (x ∷ xs) = position_or_len_is p (x ∷ xs) (length (x ∷ xs)) x (omega arith) (λ k. none k x) (λ lt. absurd (omega arith)) in
+    let at : position_or_len p (x ∷ xs) ≡ length (x ∷ xs) =
+    position_or_len_is p (x ∷ xs) (length (x ∷ xs)) x (omega arith) (λ k. none k x) (λ lt. absurd (omega arith)) in
     rw at (grind (arith, nat_tests))
 
 -- two names are one where they compare equal
@@ -51,7 +55,8 @@ same_from_order : (a b : List ℕ) (o : Ordering) → slice_cmp nat_cmp a b ≡ 
 same_from_order a b o is = sym (is_eq-slice_cmp a b) ∙ ap is_eq is
 
 -- what is no text has no place among texts
-no_text : {X : Type 0} (name_of : X → List ℕ) (name : List ℕ) (xs : List X) → AllByRecursion IsUtf8 (map name_of xs) → ¬ IsUtf8 name → NonePasses (λ x. bytes_eq (name_of x) name) xs
+no_text : {X : Type 0} (name_of : X → List ℕ) (name : List ℕ) (xs : List X) → AllByRecursion IsUtf8 (map name_of xs) → ¬ IsUtf8 name →
+    NonePasses (λ x. bytes_eq (name_of x) name) xs
 no_text name_of name [] texts bad k d within = absurd (omega arith)
 no_text name_of name (x ∷ xs) texts bad zero d within =
     elim (cases_Bool (bytes_eq (name_of x) name)) [
@@ -60,10 +65,12 @@ no_text name_of name (x ∷ xs) texts bad zero d within =
     ]
 no_text name_of name (x ∷ xs) texts bad (suc k) d within = no_text name_of name xs texts.1 bad k d (omega arith)
 
-pub no_text_position : {X : Type 0} (name_of : X → List ℕ) (name : List ℕ) (xs : List X) → AllByRecursion IsUtf8 (map name_of xs) → ¬ IsUtf8 name → position (λ x. bytes_eq (name_of x) name) xs ≡ None
+pub no_text_position : {X : Type 0} (name_of : X → List ℕ) (name : List ℕ) (xs : List X) → AllByRecursion IsUtf8 (map name_of xs) → ¬ IsUtf8 name →
+    position (λ x. bytes_eq (name_of x) name) xs ≡ None
 no_text_position name_of name xs texts bad = position_nowhere _ xs (no_text name_of name xs texts bad)
 
-pub no_text_find : {X : Type 0} (name_of : X → List ℕ) (name : List ℕ) (xs : List X) → AllByRecursion IsUtf8 (map name_of xs) → ¬ IsUtf8 name → find (λ x. bytes_eq (name_of x) name) xs ≡ None
+pub no_text_find : {X : Type 0} (name_of : X → List ℕ) (name : List ℕ) (xs : List X) → AllByRecursion IsUtf8 (map name_of xs) → ¬ IsUtf8 name →
+    find (λ x. bytes_eq (name_of x) name) xs ≡ None
 no_text_find name_of name xs texts bad = find_nowhere _ xs (no_text name_of name xs texts bad)
 
 module _ {X : Type 0} (name_of : X → List ℕ) (name : List ℕ) (xs : List X) (ascend : IsAscending (map name_of xs)) where

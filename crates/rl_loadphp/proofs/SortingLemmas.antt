@@ -16,13 +16,15 @@ served_names c q ctx user names these same_ctx same_user same_names is =
     ∙ ap (filter (is_served c (query_context c q) q.user)) same_names
 
 pub missing_names : (c : Catalogue) (q : Query) (ctx : Context) (user : List ℕ) (names these : List (List ℕ))
-    → ctx ≡ query_context c q → user ≡ q.user → names ≡ names_of q → these ≡ filter (λ (name : List ℕ). not (is_served c ctx user name)) names → these ≡ missing c q
+    → ctx ≡ query_context c q → user ≡ q.user → names ≡ names_of q →
+    these ≡ filter (λ (name : List ℕ). not (is_served c ctx user name)) names → these ≡ missing c q
 missing_names c q ctx user names these same_ctx same_user same_names is =
     is ∙ ap (λ (x : Context). filter (λ (name : List ℕ). not (is_served c x user name)) names) same_ctx
     ∙ ap (λ u. filter (λ (name : List ℕ). not (is_served c (query_context c q) u name)) names) same_user
     ∙ ap (filter (λ (name : List ℕ). not (is_served c (query_context c q) q.user name))) same_names
 
-pub same_answer : (body of_body : List ℕ) (kind of_kind : Kind) (age of_age : ℕ) (private of_private : Bool) → body ≡ of_body → kind ≡ of_kind → age ≡ of_age → private ≡ of_private
+pub same_answer : (body of_body : List ℕ) (kind of_kind : Kind) (age of_age : ℕ) (private of_private : Bool) → body ≡ of_body → kind ≡ of_kind →
+    age ≡ of_age → private ≡ of_private
     → let answer : Answer = record { body = body; kind = kind; max_age = age; private = private } in
     let wanted : Answer = record { body = of_body; kind = of_kind; max_age = of_age; private = of_private } in answer ≡ wanted
 same_answer body of_body kind of_kind age of_age private of_private e f g h = rw (e, f, g, h) refl

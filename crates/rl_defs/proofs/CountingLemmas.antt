@@ -1,56 +1,60 @@
--- What definitions are refused for: what is counted is something in them, never the bytes of their file, and it is
--- never want of memory.
+-- What is counted where definitions are refused is something in them, never the bytes of their file.
 use Rattle.std.proofs.Common.{◌≢◌, ℕ, ◌-◌, ◌^◌, min, Bool, true, false, List, [], ◌∷◌, length, Option, Some, None}
 use Rattle.std.specs.Prelude.{if◌then◌else◌, nat_le, bytes_eq, codes, is_some, Result, Ok, Err}
 use Rattle.toml.specs.Data.{Data, table, Members}
 use Rattle.rl_names.specs.Title.{user_name_of}
 use Rattle.rl_names.specs.declared.counted.Counted.TheVariants as counted
 use Rattle.rl_defs.specs.declared.draft.Draft.{Draft}
-use Rattle.rl_defs.specs.declared.error.CatalogError.{CatalogError}
-use Rattle.rl_defs.specs.declared.error.CatalogError.TheVariants as breaches
-use Rattle.rl_defs.specs.Breach.{or_else, first_of, unless, unknown_in_module, unknown_in_table, unknown_at, unknown_field, bad_module_name, bad_admin, bad_skin, bad_name, too_many, too_many_dependencies, is_dependency, bad_dependency, bad_dependency_of, text_of, no_file, no_file_of, bad_source, listed_bytes, too_large, breach_of, first_breach, settled, reading_of, reading}
+use Rattle.rl_names.specs.Limits.{limit_of}
+use Rattle.rl_defs.specs.Refusal.{Refusal}
+use Rattle.rl_defs.specs.Refusal as breaches
+use Rattle.rl_defs.specs.Breach.{or_else, first_of, unless, unknown_in_module, unknown_in_table, unknown_at, unknown_field, bad_module_name, bad_admin}
+use Rattle.rl_defs.specs.Breach.{bad_skin, bad_name, too_many, too_many_dependencies, is_dependency, bad_dependency, bad_dependency_of, text_of, no_file}
+use Rattle.rl_defs.specs.Breach.{no_file_of, bad_source, listed_bytes, too_large, breach_of, first_breach, settled, reading_of, reading}
 use Rattle.rl_defs.specs.Catalogue.{Catalogue}
 use Rattle.rl_defs.specs.Draft.{draft_of}
 use Rattle.rl_defs.specs.Reading.{document, pairs}
 use Rattle.rl_defs.specs.Words.{is_definable, is_skin}
 
-abbrev pub IsOfDefinitions : CatalogError → Type 0
+abbrev pub IsOfDefinitions : Refusal → Type 0
 IsOfDefinitions (breaches.TooMany what count) = what ≢ counted.FileBytes
-IsOfDefinitions breaches.NoMemory = ⊥
 IsOfDefinitions other = Unit {0}
 
-abbrev pub IsOfReading : Result Catalogue CatalogError → Type 0
+abbrev pub IsOfReading : Result Catalogue Refusal → Type 0
 IsOfReading (Ok catalogue) = Unit {0}
 IsOfReading (Err e) = IsOfDefinitions e
 
-abbrev IsOfBreach : Option CatalogError → Type 0
+abbrev IsOfBreach : Option Refusal → Type 0
 IsOfBreach None = Unit {0}
 IsOfBreach (Some e) = IsOfDefinitions e
 
-of_or : (one other : Option CatalogError) → IsOfBreach one → IsOfBreach other → IsOfBreach (or_else one other)
+of_or : (one other : Option Refusal) → IsOfBreach one → IsOfBreach other → IsOfBreach (or_else one other)
 of_or None other h k = k
 of_or (Some e) other h k = h
 
-of_unless : (b : Bool) (e : CatalogError) → IsOfDefinitions e → IsOfBreach (unless b e)
+of_unless : (b : Bool) (e : Refusal) → IsOfDefinitions e → IsOfBreach (unless b e)
 of_unless true e h = tt
 of_unless false e h = h
 
-of_if : (b : Bool) (one other : Option CatalogError) → IsOfBreach one → IsOfBreach other → IsOfBreach (if b then one else other)
+of_if : (b : Bool) (one other : Option Refusal) → IsOfBreach one → IsOfBreach other → IsOfBreach (if b then one else other)
 of_if true one other h k = h
 of_if false one other h k = k
 
-of_first : {X : Type 0} (xs : List X) (f : X → Option CatalogError) → ((x : X) → IsOfBreach (f x)) → IsOfBreach (first_of f xs)
+of_first : {X : Type 0} (xs : List X) (f : X → Option Refusal) → ((x : X) → IsOfBreach (f x)) → IsOfBreach (first_of f xs)
 of_first [] f h = tt
 of_first (x ∷ xs) f h = of_or (f x) (first_of f xs) (h x) (of_first xs f h)
 
 -- a list of which each element keeps a rule
-of_each : {X : Type 0} (xs : List X) (test : X → Bool) (e : X → CatalogError) → ((x : X) → IsOfDefinitions (e x)) → IsOfBreach (first_of (λ x. unless (test x) (e x)) xs)
+of_each : {X : Type 0} (xs : List X) (test : X → Bool) (e : X → Refusal) → ((x : X) → IsOfDefinitions (e x)) →
+    IsOfBreach (first_of (λ x. unless (test x) (e x)) xs)
 of_each xs test e h = of_first xs (λ x. unless (test x) (e x)) (λ x. of_unless (test x) (e x) (h x))
 
 -- ---- tables and keys
 
-of_fields : (owner : List ℕ) (test : List ℕ → Data → Bool) (ms : Members) → IsOfBreach (first_of (λ (key, d). unless (test key d) (breaches.UnknownField owner key)) (pairs ms))
-of_fields owner test ms = of_first (pairs ms) (λ (key, d). unless (test key d) (breaches.UnknownField owner key)) (λ x. of_unless (test x.0 x.1) (breaches.UnknownField owner x.0) tt)
+of_fields : (owner : List ℕ) (test : List ℕ → Data → Bool) (ms : Members) →
+    IsOfBreach (first_of (λ (key, d). unless (test key d) (breaches.UnknownField owner key)) (pairs ms))
+of_fields owner test ms = of_first (pairs ms) (λ (key, d). unless (test key d) (breaches.UnknownField owner key))
+    (λ x. of_unless (test x.0 x.1) (breaches.UnknownField owner x.0) tt)
 
 of_module : (x : List ℕ × Data) → IsOfBreach (unknown_in_module x)
 of_module (name, table ms) = of_fields name _ ms
@@ -78,9 +82,11 @@ of_names d =
 
 of_numbers : (d : Draft) → IsOfBreach (too_many d)
 of_numbers d =
-    of_or (unless (nat_le (length d.modules) 3500) (breaches.TooMany counted.Modules (length d.modules))) (too_many_dependencies d.modules)
-    (of_unless (nat_le (length d.modules) 3500) (breaches.TooMany counted.Modules (length d.modules)) (λ e. cc))
-    (of_each d.modules (λ m. nat_le (length m.dependencies) 256) (λ m. breaches.TooMany counted.Dependencies (length m.dependencies)) (λ m e. cc))
+    of_or (unless (nat_le (length d.modules) (limit_of counted.Modules)) (breaches.TooMany counted.Modules (length d.modules)))
+    (too_many_dependencies d.modules)
+    (of_unless (nat_le (length d.modules) (limit_of counted.Modules)) (breaches.TooMany counted.Modules (length d.modules)) (λ e. cc))
+    (of_each d.modules (λ m. nat_le (length m.dependencies) (limit_of counted.Dependencies))
+    (λ m. breaches.TooMany counted.Dependencies (length m.dependencies)) (λ m e. cc))
 
 of_dependencies : (d : Draft) → IsOfBreach (bad_dependency d)
 of_dependencies d = of_first d.modules (bad_dependency_of d) (λ m. of_each m.dependencies (is_dependency d) (breaches.BadDependency m.name) (λ name. tt))
@@ -92,7 +98,8 @@ of_sources : (d : Draft) → IsOfBreach (bad_source d)
 of_sources d = of_each d.modules (λ m. bytes_eq m.source (codes "local")) (λ m. breaches.BadSource m.name) (λ m. tt)
 
 of_sizes : (d : Draft) → IsOfBreach (too_large d)
-of_sizes d = of_unless (nat_le (listed_bytes d) 67108864) (breaches.TooMany counted.ListedBytes (min (listed_bytes d) (2 ^ 64 - 1))) (λ e. cc)
+of_sizes d = of_unless (nat_le (listed_bytes d) (limit_of counted.ListedBytes)) (breaches.TooMany counted.ListedBytes (min (listed_bytes d) (2 ^ 64 - 1)))
+    (λ e. cc)
 
 of_draft : (d : Draft) → IsOfBreach (breach_of d)
 of_draft d =
@@ -104,7 +111,7 @@ of_draft d =
 
 -- ---- the file
 
-of_settled : (d : Draft) (o : Option CatalogError) → IsOfBreach o → IsOfReading (settled d o)
+of_settled : (d : Draft) (o : Option Refusal) → IsOfBreach o → IsOfReading (settled d o)
 of_settled d None h = tt
 of_settled d (Some e) h = h
 

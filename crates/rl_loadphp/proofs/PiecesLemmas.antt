@@ -1,5 +1,6 @@
 -- An answer is made of pieces that may be sent.
-use Rattle.std.proofs.Common.{◌≡◌, ℕ, suc, Bool, true, false, cond, ◌&&◌, not, nat_lt, List, [], ◌∷◌, ◌++◌, length, codes, Option, Some, None, filter, bytes_eq, refl, sym, ap, ◌∙◌, subst, arith, append-nil}
+use Rattle.std.proofs.Common.{◌≡◌, ℕ, suc, Bool, true, false, cond, ◌&&◌, not, nat_lt, List, [], ◌∷◌, ◌++◌, length, codes, Option, Some}
+use Rattle.std.proofs.Common.{None, filter, bytes_eq, refl, sym, ap, ◌∙◌, subst, arith, append-nil}
 use Rattle.std.specs.Prelude.{Contains}
 use Rattle.std.specs.List.{AllByRecursion, flat_map}
 use Rattle.std.specs.Option.{option_map_or}
@@ -20,7 +21,7 @@ use Rattle.rl_loadphp.specs.Served.{names_of, query_context, may_serve, is_serve
 use Rattle.rl_loadphp.specs.Body.{body_of, built, states_text, scripts_text}
 use Rattle.rl_loadphp.specs.Sent.{MaySend, Piece, implementation, script, styles, state, IsMadeOfPieces}
 use Rattle.rl_loadphp.specs.Steps.{line_of, script_of, styles_of}
-use Rattle.rl_loadphp.proofs.Made.{wire-missing, scripts-payloads, styles-payloads}
+use Rattle.rl_loadphp.proofs.MadeLemmas.{wire-missing, scripts-payloads, styles-payloads}
 
 -- ---- what is made of pieces
 
@@ -41,10 +42,12 @@ both_made c q a b (ps, whole, all) (qs, rest, others) = (
   both (Piece c q) ps qs all others,
 )
 
-each_made : (c : Catalogue) (q : Query) (P : List ℕ → Type 0) (text_of : List ℕ → List ℕ) → ((name : List ℕ) → P name → IsMadeOfPieces c q (text_of name))
+each_made : (c : Catalogue) (q : Query) (P : List ℕ → Type 0) (text_of : List ℕ → List ℕ) →
+    ((name : List ℕ) → P name → IsMadeOfPieces c q (text_of name))
     → (names : List (List ℕ)) → AllByRecursion P names → IsMadeOfPieces c q (flat_map text_of names)
 each_made c q P text_of one [] all = nothing_made c q
-each_made c q P text_of one (name ∷ names) all = both_made c q (text_of name) (flat_map text_of names) (one name all.0) (each_made c q P text_of one names all.1)
+each_made c q P text_of one (name ∷ names) all = both_made c q (text_of name) (flat_map text_of names) (one name all.0)
+    (each_made c q P text_of one names all.1)
 
 -- ---- names that are asked for
 
@@ -57,12 +60,14 @@ contains_all (x ∷ xs) ys into =
     (into x (0, omega arith, refl), contains_all xs ys (λ name (k, within, is). into name (suc k, omega arith, is)))
 
 kept_step : (P : List ℕ → Type 0) (test : List ℕ → Bool) (v : Bool) (x : List ℕ) (rest : List (List ℕ)) → test x ≡ v → P x
-    → AllByRecursion (λ (n : List ℕ). P n × (test n ≡ true)) rest → AllByRecursion (λ (n : List ℕ). P n × (test n ≡ true)) (cond v (x ∷ rest) rest)
+    → AllByRecursion (λ (n : List ℕ). P n × (test n ≡ true)) rest →
+    AllByRecursion (λ (n : List ℕ). P n × (test n ≡ true)) (cond v (x ∷ rest) rest)
 kept_step P test true x rest e here all = ((here, e), all)
 kept_step P test false x rest e here all = all
 
 -- what a filter keeps is what it was given, and passes
-kept : (P : List ℕ → Type 0) (test : List ℕ → Bool) (xs : List (List ℕ)) → AllByRecursion P xs → AllByRecursion (λ (n : List ℕ). P n × (test n ≡ true)) (filter test xs)
+kept : (P : List ℕ → Type 0) (test : List ℕ → Bool) (xs : List (List ℕ)) → AllByRecursion P xs →
+    AllByRecursion (λ (n : List ℕ). P n × (test n ≡ true)) (filter test xs)
 kept P test [] all = tt
 kept P test (x ∷ xs) all = kept_step P test (test x) x (filter test xs) refl all.0 (kept P test xs all.1)
 
@@ -82,12 +87,14 @@ nobody (b ∷ bs) own h k =
     let some : nat_lt 0 (length (b ∷ bs)) ≡ true = grind (arith, nat_tests) in
     absurd (not_both (own && nat_lt 0 (length (b ∷ bs))) h (rw (k, some) refl))
 
-may_send : (c : Catalogue) (q : Query) (name : List ℕ) (p : Payload) (o : Option Sheet) → sheet_of c (query_context c q) name ≡ o → option_map_or (may_serve q.user) o false ≡ true
+may_send : (c : Catalogue) (q : Query) (name : List ℕ) (p : Payload) (o : Option Sheet) → sheet_of c (query_context c q) name ≡ o →
+    option_map_or (may_serve q.user) o false ≡ true
     → IsAsked q name → payload_of c (query_context c q) name ≡ Some p → MaySend c q name p
 unfolding IsAsked
 may_send c q name p None e served asked brings = absurd (cc)
 may_send c q name p (Some s) e served asked brings =
-    let whole = and_parts (not (bytes_eq s.group (codes "private")) && bytes_eq s.source (codes "local")) (not (bytes_eq s.group (codes "user") && nat_lt 0 (length q.user))) served in
+    let whole = and_parts (not (bytes_eq s.group (codes "private")) && bytes_eq s.source (codes "local"))
+    (not (bytes_eq s.group (codes "user") && nat_lt 0 (length q.user))) served in
     let front = and_parts (not (bytes_eq s.group (codes "private"))) (bytes_eq s.source (codes "local")) whole.0 in
     record {
       asked = asked;
@@ -111,15 +118,19 @@ brought c q make name piece sent None e = nothing_made c q
 brought c q make name piece sent (Some p) e =
     one_made c q (make p) (piece p (may_send c q name p (sheet_of c (query_context c q) name) refl sent.1 sent.0 e))
 
-lines_made : (c : Catalogue) (q : Query) (names : List (List ℕ)) → AllByRecursion (IsSent c q) names → IsMadeOfPieces c q (flat_map (line_of c (query_context c q)) names)
+lines_made : (c : Catalogue) (q : Query) (names : List (List ℕ)) → AllByRecursion (IsSent c q) names →
+    IsMadeOfPieces c q (flat_map (line_of c (query_context c q)) names)
 lines_made c q = each_made c q (IsSent c q) (line_of c (query_context c q))
-    (λ name sent. brought c q (λ (p : Payload). line (part_text (built name p))) name (λ p may. implementation name p may) sent (payload_of c (query_context c q) name) refl)
+    (λ name sent. brought c q (λ (p : Payload). line (part_text (built name p))) name (λ p may. implementation name p may) sent
+    (payload_of c (query_context c q) name) refl)
 
-scripts_made : (c : Catalogue) (q : Query) (names : List (List ℕ)) → AllByRecursion (IsSent c q) names → IsMadeOfPieces c q (flat_map (script_of c (query_context c q)) names)
+scripts_made : (c : Catalogue) (q : Query) (names : List (List ℕ)) → AllByRecursion (IsSent c q) names →
+    IsMadeOfPieces c q (flat_map (script_of c (query_context c q)) names)
 scripts_made c q = each_made c q (IsSent c q) (script_of c (query_context c q))
     (λ name sent. brought c q (λ (p : Payload). p.script) name (λ p may. script name p may) sent (payload_of c (query_context c q) name) refl)
 
-styles_made : (c : Catalogue) (q : Query) (names : List (List ℕ)) → AllByRecursion (IsSent c q) names → IsMadeOfPieces c q (flat_map (styles_of c (query_context c q)) names)
+styles_made : (c : Catalogue) (q : Query) (names : List (List ℕ)) → AllByRecursion (IsSent c q) names →
+    IsMadeOfPieces c q (flat_map (styles_of c (query_context c q)) names)
 styles_made c q = each_made c q (IsSent c q) (styles_of c (query_context c q))
     (λ name sent. brought c q (λ (p : Payload). p.styles) name (λ p may. styles name p may) sent (payload_of c (query_context c q) name) refl)
 
@@ -155,10 +166,12 @@ pub body_made : (c : Catalogue) (q : Query) (only : Only) → IsMadeOfPieces c q
 body_made c q All =
     let Made : List ℕ → Type 0 = λ text. IsMadeOfPieces c q text in
     subst Made (sym (wire-missing c (query_context c q) (served c q) (missing c q)))
-    (both_made c q (flat_map (line_of c (query_context c q)) (served c q)) (states_text (codes "missing") (missing c q)) (lines_made c q (served c q) (served_sent c q)) (missing_made c q))
+    (both_made c q (flat_map (line_of c (query_context c q)) (served c q)) (states_text (codes "missing") (missing c q))
+    (lines_made c q (served c q) (served_sent c q)) (missing_made c q))
 body_made c q Scripts =
     let Made : List ℕ → Type 0 = λ text. IsMadeOfPieces c q text in
-    let states = both_made c q (states_text (codes "ready") (served c q)) (states_text (codes "missing") (missing c q)) (states_made c q (codes "ready") (0, omega arith, refl) (served c q) (served_asked c q)) (missing_made c q) in
+    let states = both_made c q (states_text (codes "ready") (served c q)) (states_text (codes "missing") (missing c q))
+    (states_made c q (codes "ready") (0, omega arith, refl) (served c q) (served_asked c q)) (missing_made c q) in
     both_made c q (scripts_text c (query_context c q) (served c q)) (states_text (codes "ready") (served c q) ++ states_text (codes "missing") (missing c q))
     (subst Made (sym (scripts-payloads c (query_context c q) (served c q))) (scripts_made c q (served c q) (served_sent c q))) states
 body_made c q Styles =

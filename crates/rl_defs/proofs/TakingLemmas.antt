@@ -1,5 +1,6 @@
 -- A table after the value at one of its keys was taken out.
-use Rattle.std.proofs.Common.{◌≡◌, ℕ, true, false, List, [], ◌∷◌, Option, Some, String, Global, Ordering, Less, Equal, Greater, string_bytes, nat_cmp, is_eq, refl, sym, ap, ◌∙◌, inl, inr}
+use Rattle.std.proofs.Common.{◌≡◌, ℕ, true, false, List, [], ◌∷◌, Option, Some, String, Global, Ordering, Less, Equal, Greater, string_bytes}
+use Rattle.std.proofs.Common.{nat_cmp, is_eq, refl, sym, ap, ◌∙◌, inl, inr}
 use Rattle.std.specs.Prelude.{bytes_eq}
 use Rattle.std.specs.BTreeMap.{is_at}
 use Rattle.std.specs.Cmp.Lexicographic.{slice_cmp}
@@ -22,7 +23,8 @@ passed_over Equal rest d other = absurd (false≢true (sym other))
 passed_over Greater rest d other = refl
 
 -- a key that is found is no other key
-apart_from_found : (key other k : List ℕ) → bytes_eq key other ≡ false → is_eq (slice_cmp nat_cmp key k) ≡ true → is_eq (slice_cmp nat_cmp other k) ≡ false
+apart_from_found : (key other k : List ℕ) → bytes_eq key other ≡ false → is_eq (slice_cmp nat_cmp key k) ≡ true →
+    is_eq (slice_cmp nat_cmp other k) ≡ false
 apart_from_found key other k apart here =
     elim (cases_Bool (is_eq (slice_cmp nat_cmp other k))) [
       | inl same ↦
@@ -33,10 +35,13 @@ apart_from_found key other k apart here =
     ]
 
 -- what stands at another key stays
-pub get_member-remove_entry : (key other : List ℕ) → bytes_eq key other ≡ false → (es : List Entry) → get_member other (members_view (remove_entry (is_at (at_key key)) es)) ≡ get_member other (members_view es)
+pub get_member-remove_entry : (key other : List ℕ) → bytes_eq key other ≡ false → (es : List Entry) →
+    get_member other (members_view (remove_entry (is_at (at_key key)) es)) ≡ get_member other (members_view es)
 get_member-remove_entry key other apart [] = refl
 get_member-remove_entry key other apart (e ∷ es) =
     elim (cases_Bool (is_at (at_key key) e.0)) [
-      | inl here ↦ rw here (sym (passed_over (slice_cmp nat_cmp other (string_bytes e.0)) (get_member other (members_view es)) (view e.1) (apart_from_found key other (string_bytes e.0) apart here)))
-      | inr elsewhere ↦ rw elsewhere (ap (λ (rest : Option Data). match_ordering (slice_cmp nat_cmp other (string_bytes e.0)) rest (Some (view e.1)) rest) (get_member-remove_entry key other apart es))
+      | inl here ↦ rw here (sym (passed_over (slice_cmp nat_cmp other (string_bytes e.0)) (get_member other (members_view es)) (view e.1)
+          (apart_from_found key other (string_bytes e.0) apart here)))
+      | inr elsewhere ↦ rw elsewhere (ap (λ (rest : Option Data). match_ordering (slice_cmp nat_cmp other (string_bytes e.0)) rest (Some (view e.1)) rest)
+          (get_member-remove_entry key other apart es))
     ]

@@ -1,5 +1,6 @@
 -- What a list of names brings, name by name.
-use Rattle.std.proofs.Common.{◌≡◌, ℕ, ◌+◌, ◌<◌, ◌≤◌, List, [], ◌∷◌, ◌++◌, length, get_or, take, codes, map, Option, Some, None, option_map, refl, sym, ap, ◌∙◌, subst}
+use Rattle.std.proofs.Common.{◌≡◌, ℕ, ◌+◌, ◌<◌, ◌≤◌, List, [], ◌∷◌, ◌++◌, length, get_or, take, codes, map, Option, Some, None}
+use Rattle.std.proofs.Common.{option_map, refl, sym, ap, ◌∙◌, subst}
 use Rattle.std.specs.List.{flat_map, cons_option}
 use Rattle.std.specs.Option.{option_map_or}
 use Rattle.std.proofs.lemmas.List.{take_more, take_all, flat_map_more}
@@ -23,7 +24,8 @@ built_first : (o : Option Payload) (name : List ℕ) (parts : List Part)
 built_first None name parts = refl
 built_first (Some p) name parts = refl
 
-version_first : (o : Option Payload) (ps : List Payload) → map version_of (cons_option o ps) ≡ option_map_or (λ (p : Payload). version_of p ∷ []) o [] ++ map version_of ps
+version_first : (o : Option Payload) (ps : List Payload) → map version_of (cons_option o ps) ≡ option_map_or (λ (p : Payload). version_of p ∷ []) o []
+    ++ map version_of ps
 version_first None ps = refl
 version_first (Some p) ps = refl
 
@@ -39,13 +41,15 @@ styles_first (Some p) ps = refl
 
 -- ---- all names
 
-pub wire-implementations : (c : Catalogue) (ctx : Context) (names : List (List ℕ)) → wire_text (implementations c ctx names) ≡ flat_map (line_of c ctx) names
+pub wire-implementations : (c : Catalogue) (ctx : Context) (names : List (List ℕ)) →
+    wire_text (implementations c ctx names) ≡ flat_map (line_of c ctx) names
 wire-implementations c ctx [] = refl
 wire-implementations c ctx (name ∷ names) =
     built_first (payload_of c ctx name) name (implementations c ctx names)
     ∙ ap (λ text. line_of c ctx name ++ text) (wire-implementations c ctx names)
 
-pub versions-payloads : (c : Catalogue) (ctx : Context) (names : List (List ℕ)) → map version_of (payloads c ctx names) ≡ flat_map (version_in c ctx) names
+pub versions-payloads : (c : Catalogue) (ctx : Context) (names : List (List ℕ)) →
+    map version_of (payloads c ctx names) ≡ flat_map (version_in c ctx) names
 versions-payloads c ctx [] = refl
 versions-payloads c ctx (name ∷ names) =
     version_first (payload_of c ctx name) (payloads c ctx names)
@@ -74,7 +78,8 @@ wire-missing c ctx served missing =
 -- ---- a loop over names
 
 pub more_made : {A : Type 0} (f : List ℕ → List A) (old now next : List A) (names : List (List ℕ)) (i : ℕ) (item name : List ℕ)
-    → i < length names → item ≡ get_or names i item → name ≡ item → now ≡ old ++ flat_map f (take i names) → next ≡ now ++ f name → next ≡ old ++ flat_map f (take (i + 1) names)
+    → i < length names → item ≡ get_or names i item → name ≡ item → now ≡ old ++ flat_map f (take i names) → next ≡ now ++ f name →
+    next ≡ old ++ flat_map f (take (i + 1) names)
 more_made f old now next names i item name within is same so_far one =
     one ∙ ap (λ n. now ++ f n) same ∙ ap (λ t. t ++ f item) so_far ∙ flat_map_more f old (take i names) item
     ∙ ap (λ ns. old ++ flat_map f ns) (ap (λ n. take i names ++ n ∷ []) is ∙ sym (take_more names i item within))
@@ -87,7 +92,8 @@ all_made f now items names i same done is = is ∙ ap (flat_map f) (take_all i i
 
 -- the line of what a name brings
 pub line_built : (old new : List ℕ) (o : Option Payload) (name : List ℕ) (p : Payload) (version script styles : List ℕ) (messages : List Message)
-    → o ≡ Some p → version ≡ version_of p → script ≡ p.script → styles ≡ p.styles → messages ≡ p.messages → new ≡ old ++ line (implement_text name version script styles messages)
+    → o ≡ Some p → version ≡ version_of p → script ≡ p.script → styles ≡ p.styles → messages ≡ p.messages →
+    new ≡ old ++ line (implement_text name version script styles messages)
     → new ≡ old ++ option_map_or (λ (p : Payload). line (part_text (built name p))) o []
 line_built old new o name p version script styles messages brought hashed of_script of_styles of_messages is =
     let Owed : Option Payload → Type 0 = λ o. new ≡ old ++ option_map_or (λ (p : Payload). line (part_text (built name p))) o [] in

@@ -1,0 +1,41 @@
+-- What is answered is made for the query that the bytes spell.
+use Rattle.std.proofs.Common.{◌≡◌, ℕ, Bool, true, false, cond, List, Result, Ok, Err, IfOk, sym, subst, ◌∙◌}
+use Rattle.std.specs.Prelude.{length, nat_lt}
+use Rattle.rl_names.specs.Meant.{Gives}
+use Rattle.rl_names.specs.Limits.{limit_of}
+use Rattle.rl_names.specs.Packing.{expand}
+use Rattle.rl_names.specs.Query.{query_of}
+use Rattle.rl_names.specs.declared.counted.Counted.TheVariants.{QueryBytes, Names, AnswerBytes}
+use Rattle.rl_names.specs.declared.query.Query.{Query}
+use Rattle.rl_defs.specs.Catalogue.{Catalogue}
+use Rattle.rl_loadphp.specs.declared.answers.Answer.{Answer}
+use Rattle.rl_loadphp.specs.declared.answers.AnswerError.{AnswerError}
+use Rattle.rl_loadphp.specs.Answer.{answer_to, asked, sent}
+use Rattle.rl_loadphp.specs.Refusal.{Refusal, QueryTooLong, TooManyNames, AnswerTooLong, refusal_told}
+use Rattle.rl_loadphp.specs.Sent.{IsMadeOfPieces}
+use Rattle.rl_loadphp.proofs.PiecesLemmas.{body_made}
+
+-- what is left of two tests that refuse
+unrefused : (long many : Bool) (e f : Refusal) (q r : Query) → cond long (Err e) (cond many (Err f) (Ok q)) ≡ Ok r → r ≡ q
+unrefused true many e f q r is = absurd (cc)
+unrefused false true e f q r is = absurd (cc)
+unrefused false false e f q r is = cc
+
+asked_is : (bytes : List ℕ) (q : Query) → asked bytes ≡ Ok q → q ≡ query_of bytes
+asked_is bytes q is =
+    let count = length (expand (query_of bytes).modules) in
+    unrefused (nat_lt (limit_of QueryBytes) (length bytes)) (nat_lt (limit_of Names) count) (QueryTooLong (length bytes)) (TooManyNames count) (query_of bytes)
+    q is
+
+unsent : (long : Bool) (e : Refusal) (a b : Answer) → cond long (Err e) (Ok a) ≡ Ok b → b ≡ a
+unsent true e a b is = absurd (cc)
+unsent false e a b is = cc
+
+pub answer_made : (c : Catalogue) (bytes : List ℕ) (q : Query) (made : Answer) (r : Result Answer AnswerError) → asked bytes ≡ Ok q
+    → made ≡ answer_to c q → Gives refusal_told r (sent made) → IfOk r (λ (a : Answer). IsMadeOfPieces c (query_of bytes) a.body)
+answer_made c bytes q made (Err e) is is_made gives = tt
+answer_made c bytes q made (Ok a) is is_made gives =
+    let whole : a ≡ answer_to c q = unsent (nat_lt (limit_of AnswerBytes) (length made.body)) (AnswerTooLong (length made.body)) made a gives ∙ is_made in
+    let P : Answer → Type 0 = λ x. IsMadeOfPieces c q x.body in
+    let Q : Query → Type 0 = λ x. IsMadeOfPieces c x a.body in
+    subst Q (asked_is bytes q is) (subst P (sym whole) (body_made c q q.only))
