@@ -1,0 +1,171 @@
+//! What no clause says: records, and databases in memory and in files.
+
+use crate::{Keeper, KeeperError, Record, RecordError, SqlKeeper, read_record, write_record};
+use rl_names::{Blob, Text, Title};
+use rl_pages::Entry;
+use sqlite::{Alter, Connection};
+use std::alloc::Global;
+use std::fs;
+use std::test::Fail;
+
+fn edit(alloc: Global, by: &str, title: &str, text: &str) -> Result<Entry, Fail> {
+    Ok(Entry::Edit {
+        by: Text::of(alloc, by)?,
+        title: Title::read(alloc, title.as_bytes())?,
+        text: Text::of(alloc, text)?,
+    })
+}
+
+fn told(alloc: Global, entries: &[Entry]) -> Result<String, Fail> {
+    let mut out = String::new(alloc);
+    for entry in entries {
+        match entry {
+            Entry::Edit { by, title, text } => {
+                let (by, title, text) = (by.as_str(), title.as_str(), text.as_str());
+                out.push_str(format!(in alloc; "{by}:{title}={text};")?.as_str())?;
+            }
+            Entry::Choice { user, key, value } => {
+                let (user, key, value) = (user.as_str(), key.as_str(), value.as_str());
+                out.push_str(format!(in alloc; "{user}.{key}={value};")?.as_str())?;
+            }
+        }
+    }
+    Ok(out)
+}
+
+/// What is read of a record of these.
+fn read(alloc: Global, kind: u32, texts: [&[u8]; 3]) -> Result<Entry, RecordError> {
+    let [a, b, c] = texts;
+    let record = Record {
+        number: 1,
+        kind,
+        a: Blob::of(alloc, a)?,
+        b: Blob::of(alloc, b)?,
+        c: Blob::of(alloc, c)?,
+    };
+    read_record(alloc, &record)
+}
+
+#[test]
+fn records(rt: HostRuntime) -> Result<(), Fail> {
+    let alloc = rt.alloc();
+    let record = write_record(
+        alloc,
+        7,
+        &edit(alloc, "Ann", "User:Ann/common.js", "ann()")?,
+    )?;
+    let again = vec![in alloc; read_record(alloc, &record)?]?;
+    assert_eq!(rt;
+        told(alloc, &again)?.as_str(),
+        "Ann:User:Ann/common.js=ann();"
+    );
+    for (kind, texts, want) in [
+        (
+            9,
+            [&b"Ann"[..], b"Talk", b"x"],
+            RecordError::BadKind { kind: 9 },
+        ),
+        (
+            1,
+            [b"\xFF", b"Talk", b"x"],
+            RecordError::BadText { place: 0 },
+        ),
+        (
+            1,
+            [b"Ann", b"Talk_", b"x"],
+            RecordError::BadText { place: 1 },
+        ),
+        (
+            1,
+            [b"Ann", b"Talk", b"\xFF"],
+            RecordError::BadText { place: 2 },
+        ),
+        (
+            2,
+            [b"Ann", b"\xFF", b"x"],
+            RecordError::BadText { place: 1 },
+        ),
+    ] {
+        assert!(rt; matches!(read(alloc, kind, texts), Err(why) if why == want));
+    }
+    Ok(())
+}
+
+/// What is read after two edits.
+fn two_edits<S: Alter>(alloc: Global, keeper: &mut SqlKeeper<S>) -> Result<String, Fail> {
+    keeper.append(1, &edit(alloc, "Root", "MediaWiki:Common.js", "one()")?)?;
+    keeper.append(2, &edit(alloc, "Ann", "User:Ann/common.js", "ann()")?)?;
+    told(alloc, keeper.read_all()?.as_slice())
+}
+
+const KEPT: &str = "Root:MediaWiki:Common.js=one();Ann:User:Ann/common.js=ann();";
+
+/// Whether each call fails, and is counted.
+fn always_fails<S: Alter>(alloc: Global, keeper: &mut SqlKeeper<S>) -> Result<bool, Fail> {
+    let entry = edit(alloc, "Ann", "Talk", "x")?;
+    let before = keeper.fault_count() == 1;
+    let append = matches!(keeper.append(1, &entry), Err(KeeperError::Failed));
+    let counted = keeper.fault_count() == 2;
+    let read = matches!(keeper.read_all(), Err(KeeperError::Failed));
+    Ok(before && append && counted && read && keeper.fault_count() == 3)
+}
+
+#[test]
+fn a_database_in_memory(rt: HostRuntime) -> Result<(), Fail> {
+    let alloc = rt.alloc();
+    let mut keeper = SqlKeeper::over(alloc, Connection::open_in_memory(alloc)?)?;
+    assert_eq!(rt; keeper.fault_count(), 0);
+    assert_eq!(rt; two_edits(alloc, &mut keeper)?.as_str(), KEPT);
+    // A number that is taken.
+    let taken = keeper.append(2, &edit(alloc, "Ann", "Talk", "x")?);
+    assert!(rt; matches!(taken, Err(KeeperError::Failed)));
+    assert_eq!(rt; keeper.fault_count(), 1);
+    assert_eq!(rt; told(alloc, keeper.read_all()?.as_slice())?.as_str(), KEPT);
+    Ok(())
+}
+
+#[test]
+fn a_database_of_another_form(rt: HostRuntime) -> Result<(), Fail> {
+    let alloc = rt.alloc();
+    for tables in [
+        "CREATE TABLE meta (one INTEGER PRIMARY KEY, form INTEGER NOT NULL) STRICT; INSERT INTO meta VALUES (1, 2);",
+        "CREATE TABLE meta (one INTEGER PRIMARY KEY, form INTEGER NOT NULL) STRICT; INSERT INTO meta VALUES (2, 1);",
+        "CREATE TABLE meta (other TEXT);",
+        "CREATE TABLE entries (number INTEGER PRIMARY KEY) STRICT;",
+    ] {
+        let mut db = Connection::open_in_memory(alloc)?;
+        db.execute_batch(tables)?;
+        assert!(rt; always_fails(alloc, &mut SqlKeeper::over(alloc, db)?)?);
+    }
+    Ok(())
+}
+
+#[test]
+fn a_record_of_another_kind(rt: HostRuntime) -> Result<(), Fail> {
+    let alloc = rt.alloc();
+    let mut keeper = SqlKeeper::over(alloc, Connection::open_in_memory(alloc)?)?;
+    keeper.append(1, &edit(alloc, "Ann", "Talk", "x")?)?;
+    keeper
+        .db
+        .execute_batch("INSERT INTO entries VALUES (2, 9, x'', x'', x'');")?;
+    assert!(rt; matches!(keeper.read_all(), Err(KeeperError::Failed)));
+    assert_eq!(rt; keeper.fault_count(), 1);
+    Ok(())
+}
+
+const FILE: &str = "/tmp/rl_keeper_two_edits.db";
+
+#[test]
+fn a_database_in_a_file(rt: HostRuntime) -> Result<(), Fail> {
+    let alloc = rt.alloc();
+    let _ = fs::remove_file(&rt, FILE);
+    let mut keeper = SqlKeeper::over(alloc, Connection::open(&rt, FILE)?)?;
+    assert_eq!(rt; two_edits(alloc, &mut keeper)?.as_str(), KEPT);
+    keeper.db.close()?;
+    let mut again = SqlKeeper::over(alloc, Connection::open(&rt, FILE)?)?;
+    assert_eq!(rt; again.fault_count(), 0);
+    assert_eq!(rt; told(alloc, again.read_all()?.as_slice())?.as_str(), KEPT);
+    again.db.close()?;
+    let _ = fs::remove_file(&rt, FILE);
+    Ok(())
+}

@@ -1,0 +1,5 @@
+pub mod HistoryLemmas
+pub mod IndexLemmas
+pub mod OptionLemmas
+pub mod SeenLemmas
+mod Worked
