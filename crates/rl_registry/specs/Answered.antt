@@ -16,6 +16,7 @@ abbrev pub Registers : Result Registered RegistryError → List Row → List Tex
 Registers (Ok r) rows features = (breach_of rows ≡ None) × (r ≡ record { rows = rows; features = features })
 Registers (Err (bad.TooMany what count)) rows features = breach_of rows ≡ Some (breach.TooMany what count)
 Registers (Err (bad.Duplicate name)) rows features = breach_of rows ≡ Some (breach.Duplicate name)
+Registers (Err (bad.BadIndex row index)) rows features = breach_of rows ≡ Some (breach.BadIndex row index)
 Registers (Err bad.NoMemory) rows features = Unit {0}
 
 -- the rows of the closures, in row order, or why the request is refused

@@ -1,12 +1,9 @@
 -- What is looked through for the least name to blame.
-use Rattle.std.specs.Prelude.{◌≡◌, ℕ, ◌<◌, List, [], ◌∷◌, ◌++◌, Bool, true, false, filter, flat_map, length, is_none, option_and_then, slice_get, Option, Some, None}
+use Rattle.std.specs.Prelude.{ℕ, List, ◌++◌, filter, flat_map, is_none, option_and_then, slice_get, Option, Some, None}
 use Rattle.std.specs.Option.{option_map_or}
-use Rattle.std.specs.Ordering.{nat_cmp, is_lt}
-use Rattle.std.specs.Cmp.Lexicographic.{slice_cmp}
 use Rattle.rl_names.specs.declared.row.Dep.{Dep}
-use Rattle.rl_view_spec.specs.Closure.{Text, Registered, deps_of_row, dep_name, lesser}
+use Rattle.rl_view_spec.specs.Closure.{Text, Registered, deps_of_row, dep_name}
 use Rattle.rl_view_spec.specs.Numbers.{number_of, closure_numbers}
-use Rattle.rl_view_spec.specs.Progress.{name_at}
 
 -- those of the texts that no row has as its name
 abbrev pub unknown : Registered → List Text → List Text
@@ -26,14 +23,3 @@ if_unknown r name = option_map_or (λ row. None) (number_of r name) (Some name)
 -- the name of a dependency, where no row has it
 abbrev pub unknown_dep : Registered → Dep → Option Text
 unknown_dep r dep = option_and_then (if_unknown r) (dep_name r dep)
-
--- the least of the texts and of the one found before, if there is one
-abbrev pub least_from : Option Text → List Text → Option Text
-least_from found [] = found
-least_from found (text ∷ texts) = least_from (Some (lesser text found)) texts
-
--- the row of least name, in byte order, of those that pass the test, or none where none passes
-abbrev pub IsLeastRow : Registered → (ℕ → Bool) → Option ℕ → Type 0
-IsLeastRow r test None = (k : ℕ) → k < length r.rows → test k ≡ false
-IsLeastRow r test (Some row) =
-    (row < length r.rows) × (test row ≡ true) × ((k : ℕ) → k < length r.rows → test k ≡ true → is_lt (slice_cmp nat_cmp (name_at r k) (name_at r row)) ≡ false)

@@ -1,3 +1,4 @@
+//! Why rows are no registry, and why names do not resolve.
 ghost use Rattle.std.specs.Prelude.{◌≡◌};
 
 use rl_names::{Counted, NoMemory, Text};
@@ -7,13 +8,16 @@ use thiserror::Error;
 /// Why rows are no registry.
 #[derive(Debug, Drop, Error)]
 pub enum RegistryError {
-    /// There are more than 4,096 rows, or a row has more than 256 dependencies, repeats counted. The count is the
-    /// true one; of rows with too many dependencies it is that of the first.
+    /// There are more rows, or more dependencies of one row, repeats counted, than their limit. The count is the true
+    /// one; of rows with too many dependencies it is that of the first.
     #[error("too many {what:?}: {count}")]
     TooMany { what: Counted, count: u64 },
     /// Rows have one name. Of such names it is the least in byte order.
     #[error("two rows are named {}", .name.as_str())]
     Duplicate { name: Text },
+    /// A row depends on a row by a number that none has. It is the first such row, and in it the first such number.
+    #[error("row {row} depends on row {index}, and there is none")]
+    BadIndex { row: u32, index: u32 },
     #[error("out of memory")]
     NoMemory,
 }

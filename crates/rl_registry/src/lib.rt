@@ -2,11 +2,7 @@
 #![tactic(auto)]
 
 pub mod error;
-mod graph;
-mod index;
-mod ranks;
 pub mod registry;
-mod rows;
 #[cfg(test)]
 mod tests;
 

@@ -1,20 +1,16 @@
+//! A registry: rows that were read, and what is asked of them.
+ghost use Rattle.std.specs.Prelude.{◌≡◌, IfOk};
 ghost use Rattle.rl_registry.specs.Rows.{VersionsChangeNothing};
 
 use crate::error::{RegistryError, ResolveError};
-use crate::graph::{is_marked, places, reach};
-use crate::index;
-use crate::index::{index_of, least_repeated, lesser};
-use crate::ranks::{ranks_fall, ranks_of};
-use crate::rows::{all_edges, copies, dep_name, first_wide, skips_of};
-use rl_names::{Counted, Dep, NoMemory, Row, Text, Version};
+use rl_graph::{is_marked, places, ranks_fall, ranks_of, reach};
+use rl_names::{Counted, Dep, MAX_ROWS, NoMemory, Row, Text, Version};
+use rl_rows::{
+    all_edges, dep_name, find, first_bad_index, first_wide, index_of, least_repeated, lesser,
+    skips_of,
+};
 use std::alloc::Global;
 use std::marker::Model;
-
-/// How many rows a registry may have.
-pub const MAX_ROWS: usize = 4096;
-
-/// How many dependencies a row may have, repeats counted.
-pub const MAX_DEPENDENCIES: usize = 256;
 
 /// The rows of a view, with the features that it has.
 ///
@@ -40,39 +36,55 @@ pub struct Registry {
 
 impl Model for Registry {
     ghost use Rattle.rl_view_spec.specs.Closure.{Registered};
+    ghost use Rattle.rl_graph.specs.Graph.{edge_lists};
     ghost use Rattle.rl_registry.specs.Kept.{IsKept};
 
     ghost Value = { Registered };
 
     ghost view = { λ a. record { rows = a.rows.items; features = a.features.items } };
 
-    ghost invariant = { λ a. IsKept (record { rows = a.rows.items; features = a.features.items }) a.order.items a.skips.items a.edges.items };
+    ghost invariant = { λ a. IsKept (record { rows = a.rows.items; features = a.features.items }) a.order.items a.skips.items (edge_lists a.edges.items) };
 }
 
-/// A row's version changes nothing that requests and progress look at.
+/// Copies of texts.
+fn copies(alloc: Global, texts: &[Text]) -> Result<Vec<Text>, NoMemory>
+    ensures { IfOk result (λ copies. copies.items ≡ texts.now) }
+{
+    let mut copies = Vec::with_capacity(alloc, texts.len())?;
+    for text in texts {
+        copies.push(text.copy()?)?;
+    }
+    Ok(copies)
+}
+
+/// A new version of a row changes nothing that requests and progress look at.
 pub fn version_laws()
     ensures { VersionsChangeNothing }
 {}
 
 impl Registry {
-    ghost use Rattle.std.specs.Prelude.{◌≡◌, ◌<◌, ◌≤◌, ◌&&◌, ◌++◌, ◌∷◌, length, slice_get, [], Some, None, IfOk, IfSome, IsTrue, option_map, flat_map, All, IsUtf8};
-    ghost use Rattle.std.specs.List.{filter_map, list_all};
+    ghost use Rattle.std.specs.Prelude.{◌≡◌, ◌<◌, ◌≤◌, ◌&&◌, ◌++◌, ◌∷◌, length, map, slice_get, [], Some, None, IfOk, IfSome};
+    ghost use Rattle.std.specs.Prelude.{option_map, flat_map, All, IsUtf8};
+    ghost use Rattle.std.specs.List.{filter_map};
     ghost use Rattle.rl_view_spec.specs.Closure.{leads_back};
-    ghost use Rattle.rl_view_spec.specs.Numbers.{number_of, needs_of};
+    ghost use Rattle.rl_view_spec.specs.Numbers.{number_of, needed, needs_of};
     ghost use Rattle.rl_view_spec.specs.Progress.{name_at, is_skipped_at, HasDistinctNames};
     ghost use Rattle.rl_view_spec.specs.Rows.{AreRegistrable};
-    ghost use Rattle.rl_registry.specs.Rows.{HasDepsWithin, with_version};
+    ghost use Rattle.rl_registry.specs.Rows.{with_version};
+    ghost use Rattle.rl_rows.specs.Edges.{HasDepsWithin};
+    ghost use Rattle.rl_rows.specs.Index.{IsLeastRow};
+    ghost use Rattle.rl_rows.specs.Least.{least_from};
     ghost use Rattle.rl_registry.specs.Answered.{Registers, Resolution};
-    ghost use Rattle.rl_registry.specs.Graph.{marked};
+    ghost use Rattle.rl_graph.specs.Graph.{edge_lists, marked, IsWithin};
     ghost use Rattle.rl_registry.specs.Kept.{AreClosures};
-    ghost use Rattle.rl_registry.specs.Search.{unknown, unknown_of, unknown_dep, least_from, IsLeastRow};
+    ghost use Rattle.rl_registry.specs.Search.{unknown, unknown_of, unknown_dep};
 
     /// The registry of these rows, under these features.
     pub fn read(alloc: Global, rows: Vec<Row>, features: &[Text]) -> Result<Registry, RegistryError>
         requires { AreRegistrable rows.items }
         ensures { Registers result rows.items features.now }
     {
-        if rows.len() > MAX_ROWS {
+        if rows.len() as u64 > MAX_ROWS {
             return Err(RegistryError::TooMany {
                 what: Counted::Rows,
                 count: rows.len() as u64,
@@ -89,6 +101,9 @@ impl Registry {
             return Err(RegistryError::Duplicate {
                 name: Text::of(alloc, name)?,
             });
+        }
+        if let Some((row, index)) = first_bad_index(rows.as_slice()) {
+            return Err(RegistryError::BadIndex { row, index });
         }
         let skips = skips_of(alloc, rows.as_slice(), features)?;
         let edges = all_edges(alloc, rows.as_slice(), order.as_slice(), features)?;
@@ -108,7 +123,7 @@ impl Registry {
     /// How many rows there are.
     pub fn count(&self) -> u32
         ensures value { result ≡ length self.now.rows }
-        ensures few { length self.now.rows ≤ 4096 }
+        ensures few { length self.now.rows ≤ MAX_ROWS }
         ensures distinct { HasDistinctNames self.now }
         ensures within { HasDepsWithin self.now }
     {
@@ -136,7 +151,7 @@ impl Registry {
         ensures value { result ≡ number_of self.now name.now }
         ensures within { IfSome result (λ row. row < length self.now.rows) }
     {
-        index::find(self.rows.as_slice(), self.order.as_slice(), name)
+        find(self.rows.as_slice(), self.order.as_slice(), name)
     }
 
     /// The numbers of the rows that a row depends on itself, in the order of its dependencies. A dependency without
@@ -147,6 +162,15 @@ impl Registry {
         ensures within { All (λ next. next < length self.now.rows) result.now }
     {
         self.edges[row as usize].as_slice()
+    }
+
+    /// The numbers of the rows that each row depends on, as `needs` gives them.
+    pub fn edges(&self) -> &[Vec<u32>]
+        ensures value { edge_lists result.now ≡ map (needed self.now) self.now.rows }
+        ensures few { length result.now ≤ MAX_ROWS }
+        ensures within { IsWithin (edge_lists result.now) }
+    {
+        self.edges.as_slice()
     }
 
     /// Gives the row this version, also where it had none, as a private row.
@@ -175,7 +199,7 @@ impl Registry {
         ensures { IfOk result (λ marks. AreClosures self.now names.now marks.items) }
     {
         let starts = self.starts(names)?;
-        Ok(reach(self.alloc, self.edges.as_slice(), starts.as_slice())?)
+        reach(self.alloc, self.edges.as_slice(), starts.as_slice())
     }
 
     /// Whether a row leads back to itself.

@@ -1,17 +1,18 @@
 -- What a table keeps beside the progress of its rows.
-use Rattle.std.specs.Prelude.{◌≡◌, ℕ, ◌<◌, ◌≤◌, ◌||◌, ◌==◌, List, Bool, not, IsTrue, IsFalse, Contains, IfSome, Some, count_by, length, map, slice_get, vec_capacity}
+use Rattle.std.specs.Prelude.{◌≡◌, ℕ, ◌<◌, ◌≤◌, ◌||◌, ◌==◌, List, Bool, not, IsTrue, IsFalse, Contains, IfSome, Some, count_by}
+use Rattle.std.specs.Prelude.{length, map, slice_get, vec_capacity}
 use Rattle.std.specs.List.{list_all, zip}
 use Rattle.rl_view_spec.specs.Numbers.{needs_of}
 use Rattle.rl_view_spec.specs.Progress.{Progress, HasDistinctNames, has_run, is_done, has_thrown, is_skipped_at, outcome_at, is_lost}
 use Rattle.rl_states.specs.declared.standing.Standing.{Standing}
 use Rattle.rl_states.specs.declared.table.Table.TheInside.{Inside}
-use Rattle.rl_states.specs.Marks.{is_marked}
+use Rattle.rl_graph.specs.Graph.{marked}
 use Rattle.rl_states.specs.Standings.{cell_of}
 use Rattle.rl_states.specs.Users.{AreUsers}
 
 -- the progress of the rows
 abbrev pub progress_in : Inside → Progress
-progress_in t = record { registered = t.registry; cells = map cell_of t.standings.items; ran = zip t.log.items t.threw.items; executing = t.executing }
+progress_in t = record { registered = t.registry; cells = map cell_of t.standings; ran = zip t.log.items t.threw.items; executing = t.executing }
 
 -- how many dependencies of a row other than itself are not done
 abbrev pub waits_of : Progress → ℕ → ℕ
@@ -39,8 +40,8 @@ pub record Spoils (t : Progress) (test : ℕ → Bool) : Type 0 where
 -- the least rows that have each broken row, and with a row all that need it
 pub record AreSpoiled (t : Progress) (marks : List Bool) : Type 0 where
   pub long : length marks ≡ length t.registered.rows
-  pub spoils : Spoils t (is_marked marks)
-  pub least : (test : ℕ → Bool) → Spoils t test → (row : ℕ) → IsTrue (is_marked marks row) → IsTrue (test row)
+  pub spoils : Spoils t (marked marks)
+  pub least : (test : ℕ → Bool) → Spoils t test → (row : ℕ) → IsTrue (marked marks row) → IsTrue (test row)
 
 -- a row that executes is not skipped, did not run before, and needs only what is done
 pub record IsRunning (t : Progress) (row : ℕ) : Type 0 where
@@ -65,7 +66,7 @@ pub record IsTable (t : Progress) (standings : List Standing) (users : List (Lis
 
 -- that, each row that ran with whether it threw, and room for each row
 pub record IsKept (t : Inside) : Type 0 where
-  pub table : IsTable (progress_in t) t.standings.items t.users t.spoiled
+  pub table : IsTable (progress_in t) t.standings t.users t.spoiled
   pub paired : length t.threw.items ≡ length t.log.items
   pub room : length t.registry.rows ≤ vec_capacity t.log
   pub room_beside : length t.registry.rows ≤ vec_capacity t.threw

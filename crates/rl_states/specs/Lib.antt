@@ -1,6 +1,7 @@
+pub mod Cells
 pub mod Changes
+pub mod Credit
 pub mod Kept
-pub mod Marks
 pub mod Spoiled
 pub mod Standings
 pub mod Users

@@ -1,5 +1,6 @@
 -- How far rows have come, each by itself.
-use Rattle.std.specs.Prelude.{ℕ, ◌-◌, ◌||◌, ◌&&◌, ◌==◌, List, Bool, true, false, not, if◌then◌else◌, length, map, count_by, None, nat_eq, slice_get}
+use Rattle.std.specs.Prelude.{ℕ, ◌-◌, ◌||◌, ◌&&◌, ◌==◌, List, Bool, true, false, not, if◌then◌else◌, length, map, count_by, None}
+use Rattle.std.specs.Prelude.{nat_eq, slice_get}
 use Rattle.std.specs.List.{enumerate_from, list_any, range_with_len}
 use Rattle.std.specs.Option.{option_map_or}
 use Rattle.rl_view_spec.specs.Closure.{Registered}

@@ -1,6 +1,6 @@
-ghost use Rattle.std.specs.Prelude.{◌≡◌, ℕ, ◌<◌, ◌≤◌, ◌||◌, ◌==◌, not, length, position, All, IfOk, IfSome, Some, count_by, nat_eq, slice_get};
-ghost use Rattle.rl_states.specs.Standings.{begun, by_place, for_rows, fresh, is_done_in, may_run, touch_at, release_at};
-ghost use Rattle.rl_states.specs.declared.standing.Standing.{Standing};
+//! How far a row has come.
+ghost use Rattle.std.specs.Prelude.{◌≡◌, ◌||◌, ◌==◌, not, IfOk, count_by};
+ghost use Rattle.rl_states.specs.Standings.{begun, for_rows, fresh, is_done_in, may_run};
 
 use rl_names::NoMemory;
 use rl_registry::Registry;
@@ -29,14 +29,6 @@ pub fn may_run(standing: &Standing) -> bool
         && !standing.ran
         && !standing.done
         && standing.waits == 0
-}
-
-/// The first row that may run.
-pub fn first_that_may_run(standings: &[Standing]) -> Option<usize>
-    ensures value { result ≡ position may_run standings.now }
-    ensures within { IfSome result (λ row. row < length standings.now) }
-{
-    standings.iter().position(may_run)
 }
 
 /// Rows to which nothing happened.
@@ -92,26 +84,5 @@ fn is_done(standings: &[Standing], row: u32) -> bool
     match standings.get(row as usize) {
         Some(standing) => standing.done,
         None => false,
-    }
-}
-
-/// Marks rows as touched.
-pub fn touch_all(standings: &mut [Standing], rows: &[u32])
-    requires { All (λ row. row < length standings.old) rows.now }
-    ensures { standings.new ≡ by_place (touch_at rows.now) standings.old }
-{
-    for row in rows {
-        standings[*row as usize].touched = true;
-    }
-}
-
-/// Notes that a row is done for which these wait.
-pub fn release(standings: &mut [Standing], users: &[u32])
-    requires range { All (λ user. user < length standings.old) users.now }
-    requires waiting { (row : ℕ) (standing : Standing) → slice_get standings.old row ≡ Some standing → count_by (nat_eq row) users.now ≤ standing.waits }
-    ensures { standings.new ≡ by_place (release_at users.now) standings.old }
-{
-    for user in users {
-        standings[*user as usize].waits -= 1;
     }
 }

@@ -1,15 +1,18 @@
+//! The table of a view: how far its rows have come.
 ghost use Rattle.std.specs.Prelude.{◌≡◌};
 ghost use Rattle.rl_states.specs.Standings.{phase_by};
 ghost use Rattle.rl_view_spec.specs.Progress.{is_lost};
 
+use crate::cells::{Cells, release, touch_all};
+use crate::counted::{Steps, Users};
 use crate::spoiled::Spoiled;
-use crate::standing::{Standing, first_that_may_run, open_standings, release, touch_all};
-use crate::users::Users;
+use crate::standing::Standing;
 use rl_names::{NoMemory, Version};
 use rl_registry::Registry;
 use rl_view_spec::{Outcome, Phase};
 use std::alloc::Global;
 use std::marker::Model;
+use std::sync::ledger::Ledger;
 
 /// How far the rows of a registry have come: which were requested, what they were answered with, and which ran.
 #[derive(Drop)]
@@ -17,7 +20,7 @@ pub struct Table {
     registry: Registry,
 
     /// One for each row.
-    standings: Vec<Standing>,
+    standings: Cells,
 
     users: Users,
     spoiled: Spoiled,
@@ -42,17 +45,19 @@ impl Model for Table {
 }
 
 impl Table {
-    ghost use Rattle.std.specs.Prelude.{◌≡◌, ◌≢◌, ◌<◌, length, map, All, IfOk, IfSome, IsTrue, IsFalse, is_some};
+    ghost use Rattle.std.specs.Prelude.{◌≡◌, ◌≢◌, ◌+◌, ◌*◌, ◌<◌, ◌≤◌, length, map, All, IfOk, IfSome, IsTrue, IsFalse, is_some};
     ghost use Rattle.rl_view_spec.specs.Progress.{is_touched_at, is_skipped_at, outcome_at, has_run, next_row, phase_of};
     ghost use Rattle.rl_registry.specs.Rows.{with_version};
+    ghost use Rattle.rl_states.specs.Credit.{credit, entries};
     ghost use Rattle.rl_states.specs.Changes.{fresh_progress, after_touch, after_outcome, after_ran};
 
     /// The table of a registry of which nothing was requested. It takes the room for all that comes.
     pub fn open(alloc: Global, registry: Registry) -> Result<Table, NoMemory>
-        ensures { IfOk result (λ table. table ≡ fresh_progress registry) }
+        ensures value { IfOk result (λ table. table ≡ fresh_progress registry) }
+        ensures credit { IfOk result (λ table. credit table ≡ 64 * length registry.rows + 8 * entries registry) }
     {
         let count = registry.count();
-        let standings = open_standings(alloc, &registry)?;
+        let standings = Cells::open(alloc, &registry)?;
         let users = Users::open(alloc, &registry)?;
         let spoiled = Spoiled::open(alloc, count)?;
         let log = Vec::with_capacity(alloc, count as usize)?;
@@ -78,40 +83,46 @@ impl Table {
     /// Gives a row this version.
     pub fn registry_mut(&mut self, row: u32, version: Version)
         requires { row < length self.old.registered.rows }
-        ensures { self.new ≡ record self.old { registered = with_version self.old.registered row version } }
+        ensures value { self.new ≡ record self.old { registered = with_version self.old.registered row version } }
+        ensures credit { credit self.new ≡ credit self.old }
     {
         self.registry.set_version(row, version);
     }
 
     /// Notes that rows were requested.
-    pub fn touch(&mut self, rows: &[u32])
+    pub fn touch<L: Ledger>(&mut self, rows: &[u32], steps: &mut Steps<L>)
         requires { All (λ row. row < length self.old.registered.rows) rows.now }
-        ensures { self.new ≡ after_touch rows.now self.old }
+        ensures value { self.new ≡ after_touch rows.now self.old }
+        ensures cost { steps.new + credit self.new ≤ steps.old + credit self.old + 8 * length rows.now + 8 }
     {
-        touch_all(self.standings.as_mut_slice(), rows);
+        touch_all(&mut self.standings, rows, steps);
     }
 
     /// Whether a row was requested.
     pub fn touched(&self, row: u32) -> bool
         ensures { result ≡ is_touched_at self.now row }
     {
-        match self.standings.get(row as usize) {
+        match self.standings.peek(row) {
             Some(standing) => standing.touched,
             None => false,
         }
     }
 
     /// Notes what a row was answered with.
-    pub fn outcome(&mut self, row: u32, outcome: Outcome)
+    pub fn outcome<L: Ledger>(&mut self, row: u32, outcome: Outcome, steps: &mut Steps<L>)
         requires touched { IsTrue (is_touched_at self.old row) }
         requires kept { IsFalse (is_skipped_at self.old.registered row) }
         requires first { outcome_at self.old row ≡ None }
         requires idle { self.old.executing ≡ None }
-        ensures { self.new ≡ after_outcome row outcome self.old }
+        ensures value { self.new ≡ after_outcome row outcome self.old }
+        ensures cost { steps.new + credit self.new ≤ steps.old + credit self.old + 8 }
     {
-        self.standings[row as usize].outcome = Some(outcome);
+        let old = self.standings.at(row, steps);
+        let mut standing = old;
+        standing.outcome = Some(outcome);
+        self.standings.set(row, &old, standing, steps);
         if is_lost(outcome) {
-            self.spoiled.add(&self.users, row);
+            self.spoiled.add(&self.users, row, steps);
         }
     }
 
@@ -119,49 +130,54 @@ impl Table {
     pub fn has_outcome(&self, row: u32) -> bool
         ensures { result ≡ is_some (outcome_at self.now row) }
     {
-        match self.standings.get(row as usize) {
+        match self.standings.peek(row) {
             Some(standing) => standing.outcome.is_some(),
             None => false,
         }
     }
 
     /// The row that would run next: of those that may, the least. None exactly where none may.
-    pub fn first_run(&self) -> Option<u32>
-        ensures { result ≡ next_row self.now }
+    pub fn first_run<L: Ledger>(&self, steps: &mut Steps<L>) -> Option<u32>
+        ensures value { result ≡ next_row self.now }
+        ensures cost { steps.new ≤ steps.old + 160 }
     {
-        match first_that_may_run(self.standings.as_slice()) {
+        match self.standings.first(steps) {
             Some(row) => Some(row as u32),
             None => None,
         }
     }
 
     /// The row that runs next: of those that may, the least. It is executing from then on. None exactly where none may.
-    pub fn next_run(&mut self) -> Option<u32>
+    pub fn next_run<L: Ledger>(&mut self, steps: &mut Steps<L>) -> Option<u32>
         requires { self.old.executing ≡ None }
         ensures row { result ≡ next_row self.old }
         ensures after { self.new ≡ record self.old { executing = result } }
         ensures fewer { IfSome result (λ row. length self.old.ran < length self.old.registered.rows) }
+        ensures cost { steps.new ≤ steps.old + 160 }
     {
-        let row = self.first_run();
+        let row = self.first_run(steps);
         self.executing = row;
         row
     }
 
     /// Notes that the executing row ran, and whether an observer threw.
-    pub fn ran(&mut self, row: u32, threw: bool)
+    pub fn ran<L: Ledger>(&mut self, row: u32, threw: bool, steps: &mut Steps<L>)
         requires { self.old.executing ≡ Some row }
-        ensures { self.new ≡ after_ran row threw self.old }
+        ensures value { self.new ≡ after_ran row threw self.old }
+        ensures cost { steps.new + credit self.new ≤ steps.old + credit self.old + 8 }
     {
         self.log.push(row).unwrap();
         self.threw.push(threw).unwrap();
         self.executing = None;
-        let standing = &mut self.standings[row as usize];
+        let old = self.standings.at(row, steps);
+        let mut standing = old;
         standing.ran = true;
         standing.done = !threw;
+        self.standings.set(row, &old, standing, steps);
         if threw {
-            self.spoiled.add(&self.users, row);
+            self.spoiled.add(&self.users, row, steps);
         } else {
-            release(self.standings.as_mut_slice(), self.users.of(row));
+            release(&mut self.standings, &self.users, row, steps);
         }
     }
 
@@ -169,7 +185,7 @@ impl Table {
     pub fn has_run(&self, row: u32) -> bool
         ensures { result ≡ has_run self.now row }
     {
-        match self.standings.get(row as usize) {
+        match self.standings.peek(row) {
             Some(standing) => standing.ran,
             None => false,
         }
@@ -184,7 +200,10 @@ impl Table {
         if self.executing == Some(row) {
             return Phase::Executing;
         }
-        resting_phase(&self.standings[row as usize], self.spoiled.has(row))
+        match self.standings.peek(row) {
+            Some(standing) => resting_phase(&standing, self.spoiled.has(row)),
+            None => Phase::Registered,
+        }
     }
 
     /// The rows that ran, in order.

@@ -13,7 +13,7 @@ use Rattle.rl_view_spec.specs.Headline.{RunsOnceAndAfter, ReadyWhereGood}
 use Rattle.rl_view_spec.specs.Laws.{AreLawful}
 use Rattle.rl_view_spec.specs.Direct.{all_direct, dep_passes}
 use Rattle.rl_view_spec.specs.declared.Phase.TheVariants as phase
-use Rattle.rl_view_spec.proofs.Tools.{contains_none}
+use Rattle.rl_view_spec.proofs.ToolsLemmas.{contains_none}
 
 abbrev a : Text
 a = codes "A"
@@ -84,7 +84,8 @@ gap_past = came a ∷ asked a ∷ []
 
 gap_not_after : RunsOnceAndAfter gap gap_past → ⊥
 gap_not_after h = ⊎_elim (λ s. let e : false ≡ true = s in cc) (λ m. contains_none m.0 m.1)
-    (h.after [] [] 0 refl b (b ∷ [], ((0, omega arith, refl), refl)) (λ e. let f : get_or b 0 0 ≡ get_or a 0 0 = ap (λ (xs : List ℕ). get_or xs 0 0) e in absurd (omega (arith, f))))
+    (h.after [] [] 0 refl b (b ∷ [], ((0, omega arith, refl), refl))
+    (λ e. let f : get_or b 0 0 ≡ get_or a 0 0 = ap (λ (xs : List ℕ). get_or xs 0 0) e in absurd (omega (arith, f))))
 
 -- ---- a dependency by a number without a row is none, and does not pass
 

@@ -1,5 +1,6 @@
 -- What follows of the definitions of a view, as statements.
-use Rattle.std.specs.Prelude.{◌≡◌, ◌≢◌, ◌<◌, ◌↔◌, ◌||◌, ◌==◌, ◌++◌, ◌∷◌, ℕ, Bool, List, Contains, IsTrue, IsFalse, length, Some, None, slice_get}
+use Rattle.std.specs.Prelude.{◌≡◌, ◌≢◌, ◌<◌, ◌↔◌, ◌⊎◌, ◌||◌, ◌==◌, ◌++◌, ◌∷◌, ℕ, Bool, List, Contains, IsTrue}
+use Rattle.std.specs.Prelude.{IsFalse, length, Some, None, slice_get}
 use Rattle.std.specs.List.{AllByRecursion, list_all}
 use Rattle.std.specs.Ordering.{nat_cmp, is_lt}
 use Rattle.std.specs.Cmp.Lexicographic.{slice_cmp}
@@ -7,8 +8,9 @@ use Rattle.rl_names.specs.declared.row.Row.{Row}
 use Rattle.rl_view_spec.specs.Closure.{Text, Registered, InClosure, IsCyclic, Resolves, has_row, has_feature, Unknown, Cycle, refusal_of}
 use Rattle.rl_view_spec.specs.Progress.{Progress, name_at, is_skipped_at, is_done, all_needed, is_runnable, next_row, phase_of, HasDistinctNames}
 use Rattle.rl_view_spec.specs.Direct.{all_direct, is_directly_runnable, RanDirectly, after_run, dep_passes, is_within}
-use Rattle.rl_view_spec.specs.View.{View, Event, is_touched, is_good, is_implementation, first_of, progress_of, state_of, log_of}
+use Rattle.rl_view_spec.specs.View.{View, Event, all_answered, is_touched, is_good, is_implementation, first_of, progress_of, state_of, log_of}
 use Rattle.rl_view_spec.specs.Headline.{IsLawful, RunsOnceAndAfter, Headline}
+use Rattle.rl_view_spec.specs.declared.Phase.TheVariants as phase
 
 -- each request of the events was accepted
 abbrev pub AreLawful : View → List Event → Type 0
@@ -47,7 +49,8 @@ ViewsRanDirectly = (v : View) (past : List Event) → HasDistinctNames v.registe
 -- the direct dependencies, read off the row's list, where each number in it has a row
 abbrev pub DirectByDeps : Type 0
 DirectByDeps =
-    (r : Registered) → HasDistinctNames r → (row : ℕ) (found : Row) (test : ℕ → Bool) → slice_get r.rows row ≡ Some found → IsTrue (list_all (is_within r) found.deps)
+    (r : Registered) → HasDistinctNames r → (row : ℕ) (found : Row) (test : ℕ → Bool) → slice_get r.rows row ≡ Some found →
+    IsTrue (list_all (is_within r) found.deps)
     → all_direct r row test ≡ (has_feature r found.skip || list_all (dep_passes r test) found.deps)
 
 -- ---- the log
@@ -86,6 +89,13 @@ ProgressTellsStates =
 
 abbrev pub HeadlineHolds : Type 0
 HeadlineHolds = (v : View) (past : List Event) → Headline v past
+
+-- Once each touched row is answered, each touched name is ready, in error or missing.
+abbrev pub AnsweredIsDecided : Type 0
+AnsweredIsDecided =
+    (v : View) (past : List Event) → AreLawful v past → IsTrue (all_answered v past)
+    → (name : Text) → IsTrue (is_touched v past name)
+    → (state_of v past name ≡ phase.Ready) ⊎ (state_of v past name ≡ phase.Error) ⊎ (state_of v past name ≡ phase.Missing)
 
 -- ---- refusals
 

@@ -2,11 +2,14 @@ pub mod Breach
 pub mod Closure
 pub mod Direct
 pub mod Headline
+pub mod Keys
 pub mod Laws
 pub mod Numbers
 pub mod Order
 pub mod Progress
 pub mod Reach
+pub mod Requests
 pub mod Rows
 pub mod Steps
+pub mod Versions
 pub mod View

@@ -1,5 +1,5 @@
 -- Rows by their numbers.
-use Rattle.std.specs.Prelude.{ℕ, List, [], Bool, if◌then◌else◌, bytes_eq, filter, position, slice_get, Option, option_and_then}
+use Rattle.std.specs.Prelude.{ℕ, List, [], if◌then◌else◌, bytes_eq, filter, position, slice_get, Option, option_and_then}
 use Rattle.std.specs.List.{filter_map}
 use Rattle.std.specs.Option.{option_map_or}
 use Rattle.rl_names.specs.declared.row.Row.{Row}

@@ -1,5 +1,5 @@
 -- What does not depend on the order of events.
-use Rattle.std.specs.Prelude.{◌≡◌, ℕ, List, Contains, IsTrue, nat_eq}
+use Rattle.std.specs.Prelude.{◌≡◌, ℕ, List, Contains, nat_eq}
 use Rattle.std.specs.List.{list_any}
 use Rattle.rl_view_spec.specs.Closure.{Text}
 use Rattle.rl_view_spec.specs.Progress.{name_at, HasDistinctNames}
@@ -29,5 +29,6 @@ observed_by v other = record { registered = v.registered; throws = other }
 abbrev pub OnlyRunsThrow : Type 0
 OnlyRunsThrow =
     (v : View) (past : List Event) (other : Throws) → HasDistinctNames v.registered → AreLawful v past
-    → ((row : ℕ) → Contains (log_of v past) row → throws_at v past (name_at v.registered row) ≡ throws_at (observed_by v other) past (name_at v.registered row))
+    → ((row : ℕ) → Contains (log_of v past) row → throws_at v past (name_at v.registered row)
+    ≡ throws_at (observed_by v other) past (name_at v.registered row))
     → (log_of v past ≡ log_of (observed_by v other) past) × ((name : Text) → state_of v past name ≡ state_of (observed_by v other) past name)

@@ -1,5 +1,6 @@
 -- How far the rows of a registry have come, by their numbers.
-use Rattle.std.specs.Prelude.{ℕ, ◌≢◌, AllPairs, ◌&&◌, ◌||◌, ◌==◌, List, [], Bool, true, false, not, if◌then◌else◌, find, map, Option, Some, None, slice_get}
+use Rattle.std.specs.Prelude.{ℕ, ◌≢◌, AllPairs, ◌&&◌, ◌||◌, ◌==◌, List, [], Bool, true, false, not, if◌then◌else◌, find, map, Option}
+use Rattle.std.specs.Prelude.{Some, None, slice_get}
 use Rattle.std.specs.List.{list_any, list_all, enumerate_from}
 use Rattle.std.specs.Option.{option_map_or}
 use Rattle.rl_view_spec.specs.Closure.{Text, Registered, has_feature, in_closure}

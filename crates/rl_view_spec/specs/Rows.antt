@@ -1,9 +1,7 @@
 -- What a registry asks of its rows.
-use Rattle.std.specs.Prelude.{ℕ, List, Bool, true, false, is_some, is_none, nat_le, IsTrue, Option}
+use Rattle.std.specs.Prelude.{List, Bool, true, false, is_some, is_none, nat_le, IsTrue, Option}
 use Rattle.std.specs.List.{list_all}
 use Rattle.rl_names.specs.declared.row.Row.{Row}
-use Rattle.rl_names.specs.declared.row.Dep.{Dep}
-use Rattle.rl_names.specs.declared.row.Dep.TheVariants.{At, Named}
 use Rattle.rl_names.specs.declared.row.Group.{Group}
 use Rattle.rl_names.specs.declared.row.Group.TheVariants.{Plain, User, Private, Other}
 use Rattle.rl_view_spec.specs.Closure.{Text}
@@ -28,16 +26,11 @@ is_other_number (Other number) = nat_le 2 number
 abbrev pub has_own_group : Row → Bool
 has_own_group row = is_other_number row.group
 
-abbrev pub is_named : Dep → Bool
-is_named (At number) = false
-is_named (Named name) = true
+abbrev pub is_private : Group → Bool
+is_private Private = true
+is_private other = false
 
--- depends on names alone, and on no number
-abbrev pub depends_by_name : Row → Bool
-depends_by_name row = list_all is_named row.deps
-
--- rows that a registry takes, but for its limits and for names that stand twice
+-- rows that a registry takes, unless they break a rule of its own
 pub record AreRegistrable (rows : List Row) : Type 0 where
   pub versions : IsTrue (list_all has_version_unless_private rows)
   pub groups : IsTrue (list_all has_own_group rows)
-  pub dependencies : IsTrue (list_all depends_by_name rows)

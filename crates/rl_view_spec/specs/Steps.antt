@@ -1,5 +1,6 @@
 -- How a table goes from one event to the next, and how a loop comes to the log.
-use Rattle.std.specs.Prelude.{◌≡◌, ◌<◌, ◌≤◌, ◌||◌, ◌&&◌, ◌++◌, ◌∷◌, [], not, ℕ, suc, List, length, if◌then◌else◌, Some, None, option_map}
+use Rattle.std.specs.Prelude.{◌≡◌, ◌<◌, ◌≤◌, ◌||◌, ◌&&◌, ◌++◌, ◌∷◌, [], not, ℕ, suc, List, length, if◌then◌else◌}
+use Rattle.std.specs.Prelude.{Some, None, option_map}
 use Rattle.std.specs.Option.{option_or}
 use Rattle.rl_view_spec.specs.Closure.{in_closures}
 use Rattle.rl_view_spec.specs.Progress.{name_at, next_row, is_touched_at, is_skipped_at, outcome_at, HasDistinctNames}
@@ -13,7 +14,8 @@ RunsStay = (v : View) (event : Event) (past : List Event) → (progress_of v (ev
 abbrev pub TouchesRequested : Type 0
 TouchesRequested =
     (v : View) (event : Event) (past : List Event) (log : List ℕ) (row : ℕ) → row < length v.registered.rows
-    → is_touched_at (progress_of v (event ∷ past) log) row ≡ (in_closures v.registered event.requested (name_at v.registered row) || is_touched_at (progress_of v past log) row)
+    → is_touched_at (progress_of v (event ∷ past) log) row
+    ≡ (in_closures v.registered event.requested (name_at v.registered row) || is_touched_at (progress_of v past log) row)
 
 -- and answers the touched rows that are not skipped and have no outcome
 abbrev pub AnswersOnce : Type 0
@@ -21,7 +23,8 @@ AnswersOnce =
     (v : View) (event : Event) (past : List Event) (log : List ℕ) → HasDistinctNames v.registered → (row : ℕ) → row < length v.registered.rows
     → outcome_at (progress_of v (event ∷ past) log) row
     ≡ option_or (outcome_at (progress_of v past log) row)
-    (if is_touched_at (progress_of v (event ∷ past) log) row && not (is_skipped_at v.registered row) then option_map kind_of (answer_in (name_at v.registered row) event) else None)
+    (if is_touched_at (progress_of v (event ∷ past) log) row && not (is_skipped_at v.registered row) then
+    option_map kind_of (answer_in (name_at v.registered row) event) else None)
 
 -- one run more
 abbrev pub RunsOneMore : Type 0
@@ -32,7 +35,8 @@ RunsOneMore =
 -- a loop that runs the next row until there is none comes to the log
 abbrev pub LoopEnds : Type 0
 LoopEnds =
-    (v : View) (event : Event) (past : List Event) (times : ℕ) → next_row (progress_of v (event ∷ past) (run_times v (event ∷ past) times (log_of v past))) ≡ None
+    (v : View) (event : Event) (past : List Event) (times : ℕ) →
+    next_row (progress_of v (event ∷ past) (run_times v (event ∷ past) times (log_of v past))) ≡ None
     → run_times v (event ∷ past) times (log_of v past) ≡ log_of v (event ∷ past)
 
 -- on its way it has a front of the log,

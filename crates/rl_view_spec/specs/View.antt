@@ -1,5 +1,6 @@
 -- A view: what was requested of it, what came, and what follows of that.
-use Rattle.std.specs.Prelude.{find, ℕ, zero, suc, ◌&&◌, ◌||◌, ◌++◌, List, [], ◌∷◌, Bool, true, false, not, if◌then◌else◌, bytes_eq, length, map, Option, Some, None, is_some, option_map, option_to_list}
+use Rattle.std.specs.Prelude.{find, ℕ, zero, suc, ◌&&◌, ◌||◌, ◌++◌, List, [], ◌∷◌, Bool, true, false, not, if◌then◌else◌, bytes_eq}
+use Rattle.std.specs.Prelude.{length, map, Option, Some, None, is_some, option_map, option_to_list}
 use Rattle.std.specs.List.{list_any, list_all}
 use Rattle.rl_names.specs.declared.row.Row.{Row}
 use Rattle.rl_view_spec.specs.Closure.{Text, Registered, is_skipped, in_closure, in_closures}
@@ -137,5 +138,6 @@ log_of v [] = []
 log_of v (event ∷ past) = run_times v (event ∷ past) (length v.registered.rows) (log_of v past)
 
 -- each touched row is skipped or has an outcome
-abbrev pub is_settled : View → List Event → Bool
-is_settled v past = list_all (λ row. not (is_touched v past row.name) || is_skipped v.registered row.name || is_some (first_of v past row.name)) v.registered.rows
+abbrev pub all_answered : View → List Event → Bool
+all_answered v past = list_all (λ row. not (is_touched v past row.name) || is_skipped v.registered row.name || is_some (first_of v past row.name))
+    v.registered.rows

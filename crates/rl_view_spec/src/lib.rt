@@ -5,8 +5,11 @@ ghost use Rattle.std.specs.Prelude.{◌↔◌, IsTrue};
 ghost use Rattle.rl_view_spec.specs.Closure.{Registered, Text, InClosure, in_closure};
 ghost use Rattle.rl_view_spec.specs.Reach.{EdgesLead, ClosedHasClosure, RankedIsAcyclic};
 ghost use Rattle.rl_view_spec.specs.Steps.{RunsStay, TouchesRequested, AnswersOnce, RunsOneMore, LoopEnds, LoopIsFront, LoopIsShort};
-ghost use Rattle.rl_view_spec.specs.Laws.{DirectIsClosure, RunsDirectly, DoneIsClosure, RanDirectlyStays, ViewsRanDirectly, DirectByDeps, RunOnceAndAfter, RunsOut, LogGrows, LogHoldsWhatBelongs, ProgressTellsStates, HeadlineHolds, AcceptedWhereResolved, UnknownIsLeast, CycleIsLeast};
+ghost use Rattle.rl_view_spec.specs.Laws.{DirectIsClosure, RunsDirectly, DoneIsClosure, RanDirectlyStays, ViewsRanDirectly, DirectByDeps, RunOnceAndAfter};
+ghost use Rattle.rl_view_spec.specs.Laws.{RunsOut, LogGrows, LogHoldsWhatBelongs, ProgressTellsStates, HeadlineHolds, AnsweredIsDecided, AcceptedWhereResolved};
+ghost use Rattle.rl_view_spec.specs.Laws.{UnknownIsLeast, CycleIsLeast};
 ghost use Rattle.rl_view_spec.specs.Order.{SameStates, SameRows, OnlyRunsThrow};
+ghost use Rattle.rl_view_spec.specs.Versions.{AlikeButForVersions, AlikeProgress};
 
 /// The state of a row.
 #[derive(Clone, Copy, Debug, PartialEq, Eq)]
@@ -52,10 +55,18 @@ pub fn log_laws()
     ensures holds { LogHoldsWhatBelongs }
 {}
 
-/// The table tells the states, and a touched name is ready exactly where all that it needs is good.
+/// The table tells the states; a touched name is ready exactly where all that it needs is good; and once each touched
+/// row is answered it is ready, in error or missing.
 pub fn state_laws()
     ensures states { ProgressTellsStates }
     ensures headline { HeadlineHolds }
+    ensures decided { AnsweredIsDecided }
+{}
+
+/// Versions of rows change nothing that requests and progress look at.
+pub fn version_laws()
+    ensures alike { AlikeButForVersions }
+    ensures progress { AlikeProgress }
 {}
 
 /// A request is refused exactly where a name of it does not resolve, with the least name to blame.

@@ -1,5 +1,5 @@
-use Rattle.rl_view_spec.proofs.After.{runs_once_and_after, run_out, logged_belongs, belongs_logged}
-use Rattle.rl_view_spec.proofs.Once.{log_grows}
+use Rattle.rl_view_spec.proofs.AfterLemmas.{runs_once_and_after, run_out, logged_belongs, belongs_logged}
+use Rattle.rl_view_spec.proofs.OnceLemmas.{log_grows}
 use Rattle.rl_view_spec.proofs.log_laws.Goals as goal
 
 pub returns : goal.returns

@@ -1,5 +1,5 @@
-use Rattle.rl_view_spec.proofs.Order.{same_state, same_row}
-use Rattle.rl_view_spec.proofs.Observed.{only_runs_throw}
+use Rattle.rl_view_spec.proofs.OrderLemmas.{same_state, same_row}
+use Rattle.rl_view_spec.proofs.ObservedLemmas.{only_runs_throw}
 use Rattle.rl_view_spec.proofs.order_laws.Goals as goal
 
 pub returns : goal.returns

@@ -1,5 +1,5 @@
-use Rattle.rl_view_spec.proofs.Resolve.{resolves_accepted}
-use Rattle.rl_view_spec.proofs.Refusals.{refused_nowhere, refused_unknown, unknown_refused, refused_cycle, cycle_refused}
+use Rattle.rl_view_spec.proofs.ResolveLemmas.{resolves_accepted}
+use Rattle.rl_view_spec.proofs.RefusalsLemmas.{refused_nowhere, refused_unknown, unknown_refused, refused_cycle, cycle_refused}
 use Rattle.rl_view_spec.proofs.refusal_laws.Goals as goal
 
 pub returns : goal.returns

@@ -1,4 +1,4 @@
-use Rattle.rl_view_spec.proofs.Reach.{edges_lead, closed_has_closure, ranked_is_acyclic}
+use Rattle.rl_view_spec.proofs.ReachLemmas.{edges_lead, closed_has_closure, ranked_is_acyclic}
 use Rattle.rl_view_spec.proofs.walk_laws.Goals as goal
 
 pub returns : goal.returns

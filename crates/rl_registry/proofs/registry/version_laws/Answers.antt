@@ -1,4 +1,4 @@
-use Rattle.rl_registry.proofs.Alike.{versions_change_nothing}
+use Rattle.rl_registry.proofs.VersionsLemmas.{versions_change_nothing}
 use Rattle.rl_registry.proofs.registry.version_laws.Goals as goal
 
 pub returns : goal.returns

@@ -1,5 +1,5 @@
 use Rattle.rl_view_spec.specs.Rows.{AreRegistrable}
 use Rattle.rl_registry.proofs.tests.rows.Given as goal
 
-abbrev pub invariant-loop-name : goal.invariant-loop-name
-invariant-loop-name l = AreRegistrable l.rows.items
+abbrev pub invariant-loop-text : goal.invariant-loop-text
+invariant-loop-text l = AreRegistrable l.rows.items

@@ -1,37 +1,109 @@
-use Rattle.std.proofs.Common.{◌≡◌, ◌<◌, length, get_or, arith, rules, subst, ℕ, List}
-use Rattle.std.specs.Prelude.{Contains}
+use Rattle.std.proofs.Common.{◌≡◌, ◌<◌, ◌≤◌, ◌+◌, ◌*◌, ℕ, List, [], ◌∷◌, ◌++◌, Bool, Option, None, Some, length, get_or}
+use Rattle.std.proofs.Common.{refl, sym, ◌∙◌, subst, ap, arith}
+use Rattle.std.specs.Prelude.{All, sum_by}
 use Rattle.std.proofs.lemmas.List.Elements.{Contains-get_or}
-use Rattle.std.proofs.lemmas.List.{get_or_read}
-use Rattle.rl_states.specs.Spoiled.{Marks}
-use Rattle.rl_states.proofs.Spreading.{spreading_begun, spreading_more, spreading_done, read_there}
+use Rattle.std.proofs.lemmas.List.Sums.{sum_by-append}
+use Rattle.rl_graph.specs.Graph.{next_in}
+use Rattle.rl_states.specs.declared.mark.Mark.{Mark}
+use Rattle.rl_states.specs.Spoiled.{AreLinked, left, spoiled_in, weight}
+use Rattle.rl_states.proofs.PassingLemmas.{Next, Passing, Pushes, all_passed, first_row, next_of, none_pending, passing_begun, passing_done, passing_more}
+use Rattle.rl_states.proofs.PassingLemmas.{pushed_long, pushes_all, pushes_one}
 use Rattle.rl_states.proofs.spoiled.spread.Goals as goal
 
-pub loop-at-init : goal.loop-at-init
-loop-at-init c =
-    let at : c.len-at.result ≡ length c.args.rows.now.items = omega arith in record {
-      spreading = rw at (spreading_begun _ _ _ _ _ _ c.requires.long c.mark.auto.marks c.requires.closed c.requires.marked c.mark.ensures.marked c.mark.ensures.adds);
-      room = search rules;
+-- pushes, by what the call answered
+as_answered : (rows : List ℕ) (marks marks' now : List Mark) (head' first : Option ℕ) (pending : List ℕ) → Pushes rows marks now first pending →
+    marks' ≡ now → head' ≡ first → Pushes rows marks marks' head' pending
+as_answered rows marks marks' now head' first pending p m h =
+    subst (λ (o : Option ℕ). Pushes rows marks marks' o pending) (sym h) (subst (λ (ms : List Mark). Pushes rows marks ms first pending) (sym m) p)
+
+-- what a row had to spend is spent on those that need it
+spent : (w : ℕ → ℕ) (row n now read done before after added total : ℕ) (pending rest : List ℕ) → w row ≡ 32 + 3 * n →
+    pending ≡ row ∷ rest → now + before + sum_by w pending ≤ total → read ≡ now + 1 → done ≤ read + 3 * n
+    → added + after ≡ before → done + after + (added + sum_by w rest) ≤ total
+spent w row n now read done before after added total pending rest weighs is cost one all weighed =
+    let first : sum_by w pending ≡ (0 + w row) + sum_by w rest = ap (sum_by w) is ∙ sum_by-append w (row ∷ []) rest in
+    omega (arith, first, weighs, cost, one, all, weighed)
+
+pub loop-turn-init : goal.loop-turn-init
+loop-turn-init g c =
+    let p : Pushes (c.args.row ∷ []) c.args.marks.now c.push-head.new.marks c.push-head.result [] =
+    as_answered (c.args.row ∷ []) c.args.marks.now c.push-head.new.marks _ c.push-head.result _ []
+    (pushes_one c.args.marks.now None [] c.args.row c.requires.low refl) c.push-head.ensures.marks c.push-head.ensures.head in record {
+      pending = p.added ++ [];
+      passing = passing_begun c.args.users.now c.args.row c.args.marks.now c.push-head.new.marks c.push-head.result c.requires.long c.requires.closed p;
+      cost = omega (arith, c.push-head.ensures.cost, p.weighed (weight c.args.users.now), sum_by-append (weight c.args.users.now) p.added []);
     }
 
-pub of-requires : goal.of-requires
-of-requires c =
-    let low : c.loop-at.at < length c.loop-at.rows.items = omega arith in
-    omega (arith, read_there _ _ _ _ _ _ c.index.result.now c.loop-at.invariant.spreading low c.index.ensures)
+pub returns-in-None-clause-spreads : goal.returns-in-None-clause-spreads
+returns-in-None-clause-spreads g c =
+    passing_done c.args.users.now c.args.row (spoiled_in c.args.marks.now) c.loop-turn.marks c.loop-turn.head c.loop-turn.invariant.pending c.loop-turn._turn
+    c.loop-turn.invariant.passing
+    (none_pending c.loop-turn.marks c.loop-turn.head c.loop-turn.invariant.pending c.loop-turn.invariant.passing.linked c.in-None.is)
 
-pub mark_all-requires-clause-low : goal.mark_all-requires-clause-low
-mark_all-requires-clause-low c = λ k d low.
-    let within : get_or c.of.result.now k d < length c.args.users.now =
-    c.requires.within c.index.result.now (get_or c.of.result.now k d) (subst (λ (xs : List ℕ). Contains xs (get_or c.of.result.now k d)) c.of.ensures (Contains-get_or c.of.result.now k d low)) in
-    omega (arith, c.loop-at.invariant.spreading.long)
+pub returns-in-None-clause-cost : goal.returns-in-None-clause-cost
+returns-in-None-clause-cost g c = omega (arith, c.loop-turn.invariant.cost)
 
-pub loop-at-preserved : goal.loop-at-preserved
-loop-at-preserved c =
-    let low : c.loop-at.at < length c.loop-at.rows.items = omega arith in record {
-      spreading = spreading_more _ _ _ _ _ _ _ _ c.index.result.now c.requires.closed c.loop-at.invariant.spreading low
-          (get_or_read c.loop-at.rows.items c.loop-at.at c.index.result.now low c.index.ensures 0) c.mark_all.auto.marks c.mark_all.ensures.marked
-          (subst (λ (xs : List ℕ). Marks xs c.loop-at.marks c.mark_all.new.marks c.loop-at.rows.items c.mark_all.new.rows.items) c.of.ensures c.mark_all.ensures.adds);
-      room = search rules;
+pub read-mark-requires : goal.read-mark-requires
+read-mark-requires g c =
+    first_row c.loop-turn.marks c.in-Some.at c.loop-turn.invariant.pending
+    (subst (λ (o : Option ℕ). AreLinked c.loop-turn.marks o c.loop-turn.invariant.pending) c.in-Some.is c.loop-turn.invariant.passing.linked)
+
+pub push_users-head-requires-clause-row : goal.push_users-head-requires-clause-row
+push_users-head-requires-clause-row g c =
+    omega (
+      arith,
+      c.loop-turn.invariant.passing.long,
+      first_row c.loop-turn.marks c.in-Some.at c.loop-turn.invariant.pending
+          (subst (λ (o : Option ℕ). AreLinked c.loop-turn.marks o c.loop-turn.invariant.pending) c.in-Some.is c.loop-turn.invariant.passing.linked),
+    )
+
+pub push_users-head-requires-clause-low : goal.push_users-head-requires-clause-low
+push_users-head-requires-clause-low g c = λ k d low.
+    let us = next_in c.args.users.now c.in-Some.at in
+    let within : get_or us k d < length c.args.users.now = c.requires.within c.in-Some.at (get_or us k d) (Contains-get_or us k d low) in
+    omega (arith, within, c.loop-turn.invariant.passing.long)
+
+pub loop-turn-preserved : goal.loop-turn-preserved
+loop-turn-preserved g c =
+    let users : List (List ℕ) = c.args.users.now in
+    let before : List Bool = spoiled_in c.args.marks.now in
+    let pending : List ℕ = c.loop-turn.invariant.pending in
+    let p : Passing users c.args.row before c.loop-turn.marks c.loop-turn.head pending c.loop-turn._turn = c.loop-turn.invariant.passing in
+    let linked : AreLinked c.loop-turn.marks (Some c.in-Some.at) pending =
+    subst (λ (o : Option ℕ). AreLinked c.loop-turn.marks o pending) c.in-Some.is p.linked in
+    let next : Next c.loop-turn.marks c.in-Some.at c.read-mark.result pending =
+    next_of c.loop-turn.marks c.in-Some.at c.read-mark.result pending c.read-mark.ensures.value linked in
+    let low : All (λ user. user < length c.loop-turn.marks) (next_in users c.in-Some.at) = λ k d inside.
+    omega (arith, c.requires.within c.in-Some.at (get_or (next_in users c.in-Some.at) k d) (Contains-get_or (next_in users c.in-Some.at) k d inside), p.long) in
+    let q : Pushes (next_in users c.in-Some.at) c.loop-turn.marks c.push_users-head.new.marks c.push_users-head.result next.rest =
+    as_answered (next_in users c.in-Some.at) c.loop-turn.marks c.push_users-head.new.marks _ c.push_users-head.result _ next.rest
+    (pushes_all (next_in users c.in-Some.at) c.loop-turn.marks c.read-mark.result.next next.rest low next.linked) c.push_users-head.ensures.marks
+    c.push_users-head.ensures.head in record {
+      pending = q.added ++ next.rest;
+      passing = passing_more users c.args.row before c.loop-turn.marks c.push_users-head.new.marks c.loop-turn.head c.push_users-head.result c.loop-turn._turn
+          c.in-Some.at pending next.rest c.requires.closed p next.noted next.is q;
+      cost = subst (λ (n : ℕ). c.push_users-head.new.steps + left (weight users) (spoiled_in c.push_users-head.new.marks) + n ≤ c.args.steps.now + left
+          (weight users) before + 2) (sym (sum_by-append (weight users) q.added next.rest))
+          (spent (weight users) c.in-Some.at (length (next_in users c.in-Some.at)) c.loop-turn.steps c.read-mark.new.steps c.push_users-head.new.steps _ _ _ _
+          pending next.rest refl next.is
+          c.loop-turn.invariant.cost c.read-mark.ensures.cost c.push_users-head.ensures.cost (q.weighed (weight users)));
     }
 
-pub returns-clause-closed : goal.returns-clause-closed
-returns-clause-closed c = spreading_done _ _ _ _ _ _ c.loop-at.invariant.spreading (omega arith)
+pub returns-clause-spreads : goal.returns-clause-spreads
+returns-clause-spreads g c =
+    passing_done c.args.users.now c.args.row (spoiled_in c.args.marks.now) c.loop-turn.marks c.loop-turn.head c.loop-turn.invariant.pending c.loop-turn._turn
+    c.loop-turn.invariant.passing
+    (all_passed c.args.users.now c.args.row (spoiled_in c.args.marks.now) c.loop-turn.marks c.loop-turn.head c.loop-turn.invariant.pending c.loop-turn._turn
+    c.loop-turn.invariant.passing
+    (omega (
+      arith,
+      c.loop-turn.invariant.passing.long,
+      c.requires.long,
+      ap length c.push-head.ensures.marks,
+      pushed_long c.args.marks.now None c.args.row,
+      c.len-turn-end.ensures,
+      c.loop-turn-test.false,
+    )))
+
+pub returns-clause-cost : goal.returns-clause-cost
+returns-clause-cost g c = omega (arith, c.loop-turn.invariant.cost)

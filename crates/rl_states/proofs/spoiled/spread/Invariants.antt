@@ -1,12 +1,13 @@
-use Rattle.std.proofs.Common.{◌≤◌, ◌-◌, length, vec_capacity}
-use Rattle.rl_states.proofs.Spreading.{Spreading}
+use Rattle.std.proofs.Common.{◌≤◌, ◌+◌, ℕ, List}
+use Rattle.std.specs.Prelude.{sum_by}
+use Rattle.rl_states.specs.Spoiled.{left, spoiled_in, weight}
+use Rattle.rl_states.proofs.PassingLemmas.{Passing}
 use Rattle.rl_states.proofs.spoiled.spread.Given as goal
 
-abbrev pub invariant-loop-at : goal.invariant-loop-at
-invariant-loop-at l = record {
-  spreading : Spreading l.users l.row l.fn.marks l.marks l.rows.items l.at;
-  room : length l.marks ≤ vec_capacity l.rows;
+abbrev pub invariant-loop-turn : goal.invariant-loop-turn
+invariant-loop-turn g l = record {
+  pending : List ℕ;
+  passing : Passing l.users l.row (spoiled_in l.fn.marks) l.marks l.head pending l._turn;
+  cost : l.steps + left (weight l.users) (spoiled_in l.marks) + sum_by (weight l.users) pending ≤ l.fn.steps + left (weight l.users) (spoiled_in l.fn.marks) +
+      2;
 }
-
-abbrev pub decreases-loop-at : goal.decreases-loop-at
-decreases-loop-at l = length l.users - l.at

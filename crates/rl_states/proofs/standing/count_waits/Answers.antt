@@ -16,7 +16,8 @@ loop-row-preserved c =
     count_step c.args.registry.now c.loop-row.row c.loop-row.standings c.count_undone-waits.result _ c.loop-row.invariant (omega arith)
     (c.count_undone-waits.ensures
     ∙ ap (λ (ss : List Standing). count_by (λ other. not (nat_eq other c.loop-row.row || is_done_in ss other)) c.needs.result.now) c.loop-row.invariant
-    ∙ ap (λ (xs : List ℕ). count_by (λ other. not (nat_eq other c.loop-row.row || is_done_in (for_rows c.args.registry.now (counting c.args.registry.now c.loop-row.row)) other)) xs) c.needs.ensures.value
+    ∙ ap (λ (xs : List ℕ). count_by (λ other. not (nat_eq other c.loop-row.row || is_done_in
+    (for_rows c.args.registry.now (counting c.args.registry.now c.loop-row.row)) other)) xs) c.needs.ensures.value
     ∙ counted c.args.registry.now c.loop-row.row c.loop-row.row)
 
 pub returns : goal.returns

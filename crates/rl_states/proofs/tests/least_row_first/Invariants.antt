@@ -1,8 +1,4 @@
-use Rattle.std.specs.Prelude.{◌≡◌, None}
 use Rattle.rl_states.proofs.tests.least_row_first.Given as goal
 
-abbrev pub invariant-loop-row : goal.invariant-loop-row
-invariant-loop-row g l = l.table.executing ≡ None
-
-abbrev pub invariant-loop-want : goal.invariant-loop-want
-invariant-loop-want g l = l.table.executing ≡ None
+abbrev pub ghosts-least_rows : goal.ghosts-least_rows
+ghosts-least_rows g a = record { name = a.blank.name; parts = a.blank.parts }

@@ -1,5 +1,5 @@
 use Rattle.std.specs.Prelude.{◌≡◌, None}
 use Rattle.rl_states.proofs.tests.played.Given as goal
 
-abbrev pub invariant-loop-row : goal.invariant-loop-row
-invariant-loop-row l = l.table.executing ≡ None
+abbrev pub invariant-loop-word : goal.invariant-loop-word
+invariant-loop-word g l = l.table.executing ≡ None

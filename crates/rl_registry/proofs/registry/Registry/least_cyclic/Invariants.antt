@@ -1,5 +1,5 @@
 use Rattle.std.proofs.Common.{◌≡◌, ◌<◌, ℕ, false, get_or}
-use Rattle.rl_registry.proofs.Loops.{loops}
+use Rattle.rl_registry.proofs.LoopsLemmas.{loops}
 use Rattle.rl_registry.proofs.registry.Registry.least_cyclic.Given as goal
 
 abbrev pub invariant-loop-row : goal.invariant-loop-row

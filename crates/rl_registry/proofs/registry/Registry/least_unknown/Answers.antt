@@ -1,6 +1,6 @@
 use Rattle.std.proofs.Common.{arith}
 use Rattle.std.proofs.lemmas.Grind.{common_steps}
-use Rattle.rl_registry.proofs.Leasts.{found_append}
+use Rattle.rl_rows.proofs.LeastLemmas.{found_append}
 use Rattle.rl_registry.proofs.registry.Registry.least_unknown.Goals as goal
 
 pub loop-row-init : goal.loop-row-init

@@ -1,6 +1,7 @@
 use Rattle.std.proofs.Common.{◌≡◌, ◌++◌, None, drop}
 use Rattle.std.specs.Prelude.{flat_map, option_map}
-use Rattle.rl_registry.specs.Search.{least_from, unknown, unknown_of}
+use Rattle.rl_registry.specs.Search.{unknown, unknown_of}
+use Rattle.rl_rows.specs.Least.{least_from}
 use Rattle.rl_registry.proofs.registry.Registry.least_unknown.Given as goal
 
 abbrev pub invariant-loop-name : goal.invariant-loop-name

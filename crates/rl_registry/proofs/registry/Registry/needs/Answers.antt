@@ -3,7 +3,7 @@ use Rattle.rl_view_spec.specs.Closure.{Registered}
 use Rattle.rl_view_spec.specs.Numbers.{needs_of}
 use Rattle.std.specs.Prelude.{Contains}
 use Rattle.std.proofs.lemmas.List.Elements.{Contains-get_or}
-use Rattle.rl_registry.proofs.Kept.{needs_at, needs_within}
+use Rattle.rl_rows.proofs.EdgesLemmas.{needs_at, needs_within}
 use Rattle.rl_registry.proofs.registry.Registry.needs.Goals as goal
 
 pub returns-clause-value : goal.returns-clause-value

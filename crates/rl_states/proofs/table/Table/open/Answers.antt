@@ -2,19 +2,24 @@ use Rattle.std.proofs.Common.{◌∙◌, List, Bool, false, length, replicate, s
 use Rattle.rl_view_spec.specs.Progress.{Progress}
 use Rattle.rl_states.specs.declared.standing.Standing.{Standing}
 use Rattle.rl_states.specs.Changes.{fresh_progress}
+use Rattle.rl_states.specs.Credit.{credit}
 use Rattle.rl_states.specs.Kept.{IsTable}
+use Rattle.rl_states.proofs.CreditLemmas.{credit_fresh}
 use Rattle.rl_states.specs.Standings.{for_rows, fresh}
-use Rattle.rl_states.proofs.Changes.{kept_fresh, fresh_view}
+use Rattle.rl_states.proofs.ChangesLemmas.{kept_fresh, fresh_view}
 use Rattle.rl_states.proofs.table.Table.open.Goals as goal
 
 pub invariant_of-result : goal.invariant_of-result
 invariant_of-result c =
-    let k : IsTable (fresh_progress c.args.registry) (for_rows c.args.registry (fresh c.args.registry)) c.in_ok-users.users (replicate (length c.args.registry.rows) false) =
+    let k : IsTable (fresh_progress c.args.registry) (for_rows c.args.registry (fresh c.args.registry)) c.in_ok-users.users
+    (replicate (length c.args.registry.rows) false) =
     kept_fresh c.args.registry c.in_ok-users.users c.count-count.ensures.few c.count-count.ensures.distinct c.in_ok-users.ensures in
     record {
-      table = subst (λ (p : Progress). IsTable p c.in_ok-standings.standings.items c.in_ok-users.users c.in_ok-spoiled.spoiled)
-          (sym (fresh_view c.args.registry c.in_ok-standings.standings.items c.in_ok-log.log.items c.in_ok-threw.threw.items c.in_ok-standings.ensures c.in_ok-log.ensures.items c.in_ok-threw.ensures.items k.cells))
-          (subst (λ (ss : List Standing). IsTable (fresh_progress c.args.registry) ss c.in_ok-users.users c.in_ok-spoiled.spoiled) (sym c.in_ok-standings.ensures)
+      table = subst (λ (p : Progress). IsTable p c.in_ok-standings.standings c.in_ok-users.users c.in_ok-spoiled.spoiled)
+          (sym (fresh_view c.args.registry c.in_ok-standings.standings c.in_ok-log.log.items c.in_ok-threw.threw.items c.in_ok-standings.ensures
+          c.in_ok-log.ensures.items c.in_ok-threw.ensures.items k.cells))
+          (subst (λ (ss : List Standing). IsTable (fresh_progress c.args.registry) ss c.in_ok-users.users c.in_ok-spoiled.spoiled)
+          (sym c.in_ok-standings.ensures)
           (subst (λ (ms : List Bool). IsTable (fresh_progress c.args.registry) (for_rows c.args.registry (fresh c.args.registry)) c.in_ok-users.users ms)
           (sym (c.in_ok-spoiled.ensures ∙ ap (λ n. replicate n false) c.count-count.ensures.value)) k));
       paired = ap length c.in_ok-threw.ensures.items ∙ sym (ap length c.in_ok-log.ensures.items);
@@ -22,8 +27,20 @@ invariant_of-result c =
       room_beside = omega (arith, c.count-count.ensures.value, c.in_ok-threw.ensures.exact);
     }
 
-pub returns : goal.returns
-returns c =
-    let k : IsTable (fresh_progress c.args.registry) (for_rows c.args.registry (fresh c.args.registry)) c.in_ok-users.users (replicate (length c.args.registry.rows) false) =
+pub returns-clause-value : goal.returns-clause-value
+returns-clause-value c =
+    let k : IsTable (fresh_progress c.args.registry) (for_rows c.args.registry (fresh c.args.registry)) c.in_ok-users.users
+    (replicate (length c.args.registry.rows) false) =
     kept_fresh c.args.registry c.in_ok-users.users c.count-count.ensures.few c.count-count.ensures.distinct c.in_ok-users.ensures in
-    fresh_view c.args.registry c.in_ok-standings.standings.items c.in_ok-log.log.items c.in_ok-threw.threw.items c.in_ok-standings.ensures c.in_ok-log.ensures.items c.in_ok-threw.ensures.items k.cells
+    fresh_view c.args.registry c.in_ok-standings.standings c.in_ok-log.log.items c.in_ok-threw.threw.items c.in_ok-standings.ensures c.in_ok-log.ensures.items
+    c.in_ok-threw.ensures.items k.cells
+
+pub returns-clause-credit : goal.returns-clause-credit
+returns-clause-credit c =
+    let k : IsTable (fresh_progress c.args.registry) (for_rows c.args.registry (fresh c.args.registry)) c.in_ok-users.users
+    (replicate (length c.args.registry.rows) false) =
+    kept_fresh c.args.registry c.in_ok-users.users c.count-count.ensures.few c.count-count.ensures.distinct c.in_ok-users.ensures in
+    ap credit
+    (fresh_view c.args.registry c.in_ok-standings.standings c.in_ok-log.log.items c.in_ok-threw.threw.items c.in_ok-standings.ensures c.in_ok-log.ensures.items
+    c.in_ok-threw.ensures.items k.cells)
+    ∙ credit_fresh c.args.registry c.in_ok-users.users c.count-count.ensures.distinct k.spoiled

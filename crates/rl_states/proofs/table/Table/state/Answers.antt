@@ -1,19 +1,26 @@
-use Rattle.std.proofs.Common.{◌<◌, length, refl, ◌∙◌, ap, arith}
-use Rattle.std.proofs.lemmas.Option.{slice_get_read}
+use Rattle.std.proofs.Common.{◌≡◌, ◌<◌, Option, Some, None, length, sym, ◌∙◌, ap, arith}
 use Rattle.rl_view_spec.specs.Progress.{Progress, phase_of}
+use Rattle.rl_view_spec.proofs.ToolsLemmas.{place_there}
 use Rattle.rl_states.specs.Kept.{progress_in}
+use Rattle.rl_states.specs.declared.standing.Standing.{Standing}
 use Rattle.rl_states.specs.Standings.{phase_by}
-use Rattle.rl_states.proofs.Tables.{phase_is}
+use Rattle.rl_states.proofs.TablesLemmas.{phase_is}
 use Rattle.rl_states.proofs.table.Table.state.Goals as goal
 
-pub index-requires : goal.index-requires
-index-requires c = omega (arith, c.requires, ap (λ (t : Progress). length t.registered.rows) c.self.view_is, c.self.invariant.table.long)
-
-pub returns-clause-resting : goal.returns-clause-resting
-returns-clause-resting c = λ ne.
-    let low : c.args.row < length c.self.inside.standings.items = omega (arith, c.requires, ap (λ (t : Progress). length t.registered.rows) c.self.view_is, c.self.invariant.table.long) in
+pub returns-in-Some-clause-resting : goal.returns-in-Some-clause-resting
+returns-in-Some-clause-resting c = λ ne.
     c.resting_phase.ensures
-    ∙ ap (phase_by c.index.result.now) c.has.ensures
-    ∙ phase_is (progress_in c.self.inside) c.self.inside.standings.items c.self.inside.users c.self.inside.spoiled c.args.row c.index.result.now c.self.invariant.table
-    (slice_get_read c.self.inside.standings.items (length c.self.inside.standings.items) c.args.row c.index.result.now refl low c.index.ensures)
+    ∙ ap (phase_by c.in-Some.standing) c.has.ensures
+    ∙ phase_is (progress_in c.self.inside) c.self.inside.standings c.self.inside.users c.self.inside.spoiled c.args.row c.in-Some.standing
+    c.self.invariant.table (sym c.in-Some.ensures)
     ∙ ap (λ (t : Progress). phase_of t c.args.row) c.self.view_is
+
+pub returns-in-None-clause-resting : goal.returns-in-None-clause-resting
+returns-in-None-clause-resting c = λ ne.
+    let low : c.args.row < length c.self.inside.standings = omega
+    (arith, c.requires, ap (λ (t : Progress). length t.registered.rows) c.self.view_is, c.self.invariant.table.long) in
+    let m = place_there c.self.inside.standings c.args.row low in
+    let f : ◌≡◌ {A = Option Standing} None (Some m.0) = c.in-None.ensures ∙ m.1 in absurd (no f)
+  where
+    no : {s : Standing} → ◌≡◌ {A = Option Standing} None (Some s) → ⊥
+    no f = cc

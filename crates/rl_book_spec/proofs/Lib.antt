@@ -1,0 +1,12 @@
+pub mod AskedForLemmas
+pub mod BatchesLemmas
+pub mod FitsLemmas
+pub mod GivenLemmas
+pub mod LawfulLemmas
+pub mod LengthsLemmas
+pub mod LaterLemmas
+pub mod ListsLemmas
+pub mod SomewhereLemmas
+pub mod SortedLemmas
+pub mod StageLemmas
+pub mod Worked

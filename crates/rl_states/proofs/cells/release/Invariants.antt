@@ -1,0 +1,10 @@
+use Rattle.std.proofs.Common.{◌≡◌, ◌≤◌, ◌+◌, ◌*◌, take}
+use Rattle.rl_graph.specs.Graph.{next_in}
+use Rattle.rl_states.specs.Standings.{by_place, release_at}
+use Rattle.rl_states.proofs.cells.release.Given as goal
+
+abbrev pub invariant-loop-place : goal.invariant-loop-place
+invariant-loop-place g l = record {
+  value : l.cells ≡ by_place (release_at (take l.place (next_in l.users l.row))) l.initial.cells;
+  cost : l.steps ≤ l.initial.steps + 5 * l.place;
+}
