@@ -2,4 +2,3 @@ pub mod Drives
 pub mod Errors
 pub mod Played
 pub mod Player
-pub mod Seen

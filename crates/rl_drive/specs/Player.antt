@@ -1,23 +1,30 @@
 -- A player and the history that it has played.
-use Rattle.std.specs.Prelude.{◌≡◌, ◌++◌, ◌∷◌, ◌<◌, [], ℕ, List, Bool, true, false, IsFalse, Option, Some, None, Result, Ok, Err, drop, length}
-use Rattle.rl_names.specs.declared.text.NoMemory.{NoMemory}
-use Rattle.rl_view_spec.specs.Closure.{Text, Registered, Unknown, Cycle, refusal_of, resolves}
+use Rattle.std.specs.Prelude.{◌≡◌, ◌++◌, ◌∷◌, ◌<◌, ◌&&◌, ℕ, List, false, if◌then◌else◌, Option, Some, None, Result, Ok, Err}
+use Rattle.std.specs.Prelude.{drop, length}
+use Rattle.rl_view_spec.specs.Closure.{Text, Registered, Unknown, Cycle, refusal_of}
+use Rattle.rl_view_spec.specs.Keys.{script_of}
 use Rattle.rl_view_spec.specs.Numbers.{closure_numbers}
 use Rattle.rl_view_spec.specs.Progress.{next_row}
-use Rattle.rl_view_spec.specs.View.{Event, log_of}
+use Rattle.rl_view_spec.specs.Requests.{answer_alone, request}
+use Rattle.rl_view_spec.specs.View.{Event, Answer, log_of}
+use Rattle.rl_view_spec.specs.declared.Outcome.TheVariants as outcome
 use Rattle.rl_registry.specs.declared.error.ResolveError.{ResolveError}
 use Rattle.rl_registry.specs.declared.error.ResolveError.TheVariants as unresolved
 use Rattle.rl_script_spec.specs.Output.{event_of, events_of, line, reply_line, reply_to}
 use Rattle.rl_script_spec.specs.declared.Step.{Step}
-use Rattle.rl_states.specs.Changes.{after_ran, after_touch}
+use Rattle.rl_states.specs.Changes.{after_outcome, after_ran}
+use Rattle.rl_view.specs.Seen.{HasSeen, asks, counts_at, for_outcomes}
 use Rattle.rl_drive.specs.Drives.{quiet}
-use Rattle.rl_drive.specs.Played.{run_lines}
-use Rattle.rl_drive.specs.Seen.{HasSeen}
+use Rattle.rl_drive.specs.Played.{is_private_at, run_lines}
 use Rattle.rl_drive.specs.declared.player.Player.{Player}
 
+abbrev pub script_length : Option Answer → ℕ
+script_length answer = length (script_of answer)
+
 -- its view has this past, of which these rows ran
-abbrev pub Sees : Registered → List Event → List ℕ → Player → Type 0
-Sees r past log p = HasSeen r past log p.table p.contents.items
+pub record Sees (r : Registered) (past : List Event) (log : List ℕ) (p : Player) : Type 0 where
+  pub table : HasSeen (quiet r) past log p.table
+  pub lengths : p.lengths.items ≡ for_outcomes script_length (quiet r) past
 
 -- it has played these steps, of which the newest stands first
 abbrev pub HasPlayed : Registered → List Step → Player → Type 0
@@ -30,26 +37,30 @@ IsDue r event past p = Sees r (event ∷ past) (log_of (quiet r) past) p
 -- it is as it was
 pub record Stays (old new : Player) : Type 0 where
   pub table : new.table ≡ old.table
-  pub contents : new.contents.items ≡ old.contents.items
+  pub lengths : new.lengths.items ≡ old.lengths.items
 
--- the names are accepted, and their closures touched
-pub record Touches (names : List Text) (old new : Player) : Type 0 where
+-- a private row for which an answer counts has an error
+pub record RefusesPrivate (row : ℕ) (old new : Player) : Type 0 where
+  pub table : new.table ≡ (if is_private_at old.table row && counts_at old.table row then after_outcome row outcome.Error old.table else old.table)
+  pub lengths : new.lengths.items ≡ old.lengths.items
+
+-- so have all private ones of these rows, as a request of the names brings it
+abbrev pub RefusesAll : List ℕ → Player → Player → Type 0
+RefusesAll rows old new =
+    (r : Registered) (names : List Text) (past : List Event) → IsDue r (asks names) past old → rows ≡ closure_numbers r names
+    → IsDue r (request answer_alone r names) past new
+
+-- the names are accepted, and the request came
+pub record Requested (names : List Text) (old new : Player) : Type 0 where
   pub accepted : refusal_of old.table.registered names ≡ None
-  pub table : new.table ≡ after_touch (closure_numbers old.table.registered names) old.table
-  pub contents : new.contents.items ≡ old.contents.items
+  pub event : (r : Registered) (past : List Event) → Sees r past (log_of (quiet r) past) old → IsDue r (request answer_alone r names) past new
 
--- where they are refused nothing is touched
+-- where they are refused nothing changes
 abbrev pub Requests : Result (Unit {0}) ResolveError → List Text → Player → Player → Type 0
-Requests (Ok done) names old new = Touches names old new
+Requests (Ok done) names old new = Requested names old new
 Requests (Err (unresolved.Unknown name)) names old new = (refusal_of old.table.registered names ≡ Some (Unknown name)) × Stays old new
 Requests (Err (unresolved.Cycle name)) names old new = (refusal_of old.table.registered names ≡ Some (Cycle name)) × Stays old new
 Requests (Err unresolved.NoMemory) names old new = Unit {0}
-
--- a name by itself: whether it is accepted, and touched
-abbrev pub RequestsOne : Result Bool NoMemory → Text → Player → Player → Type 0
-RequestsOne (Ok true) name old new = Touches (name ∷ []) old new
-RequestsOne (Ok false) name old new = IsFalse (resolves old.table.registered name) × Stays old new
-RequestsOne (Err error) name old new = Unit {0}
 
 -- it takes in a step, and adds the reply to it
 pub record TakesIn (step : Step) (old new : Player) (out out' : Text) : Type 0 where
@@ -61,7 +72,7 @@ pub record Ran (row : ℕ) (old new : Player) : Type 0 where
   pub next : next_row old.table ≡ Some row
   pub within : row < length new.table.registered.rows
   pub table : new.table ≡ after_ran row false old.table
-  pub contents : new.contents.items ≡ old.contents.items
+  pub lengths : new.lengths.items ≡ old.lengths.items
 
 -- the one of least number, where one may run
 abbrev pub RunsNext : Option ℕ → Player → Player → Type 0

@@ -1,13 +1,14 @@
 //! The loop over the steps of a `drive` script: it does them, and writes the replies, what ran and the summary.
 #![tactic(auto)]
 
-mod content;
+mod lengths;
 mod player;
 mod script;
 mod steps;
 #[cfg(test)]
 mod tests;
 mod text;
+mod uncounted;
 
 pub use script::{DriveError, drive};
 pub use steps::{Driven, play};

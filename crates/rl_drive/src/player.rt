@@ -1,45 +1,54 @@
 //! A view of which steps are played.
-ghost use Rattle.std.specs.Prelude.{◌≡◌, ◌++◌, ◌<◌, [], List, None, IfOk, OnOk, codes, length};
+ghost use Rattle.std.specs.Prelude.{◌≡◌, ◌++◌, ◌<◌, [], List, None, All, IfOk, OnOk, codes, length};
 ghost use Rattle.std.specs.List.{list_all};
-ghost use Rattle.rl_view_spec.specs.Closure.{Registered};
+ghost use Rattle.rl_view_spec.specs.Closure.{Registered, resolves};
 ghost use Rattle.rl_view_spec.specs.Progress.{next_row};
+ghost use Rattle.rl_view_spec.specs.Requests.{accepted_each};
 ghost use Rattle.rl_view_spec.specs.View.{kind_of};
 ghost use Rattle.rl_script_spec.specs.Output.{answer_of, events_of, line, summary_of};
 ghost use Rattle.rl_script_spec.specs.declared.Step.{Step};
+ghost use Rattle.rl_view.specs.Seen.{counting_row, counts_at};
 ghost use Rattle.rl_drive.specs.Drives.{quiet};
-ghost use Rattle.rl_drive.specs.Played.{executed_lines, is_ready_at, is_served_at, key_at, run_at, state_at, state_lines};
-ghost use Rattle.rl_drive.specs.Seen.{counting_row};
+ghost use Rattle.rl_drive.specs.Played.{executed_lines, is_private_at, is_ready_at, is_served_at, key_at, run_at, state_at, state_lines};
 
-use crate::content::{Content, open_contents};
+use crate::lengths::no_lengths;
 use crate::text::{state_word, write, write_key, write_line, write_number};
-use rl_names::{Key, NoMemory, StateKind, Text};
+use crate::uncounted;
+use rl_names::{Group, Key, NoMemory, StateKind, Text};
 use rl_registry::{Registry, ResolveError};
 use rl_script_spec::Step;
 use rl_states::{Outcome, Phase, Table};
 use std::alloc::Global;
+use std::marker::Brand;
 use std::slice;
+use std::sync::ledger::Blank;
 
 /// A view of which some steps were played.
 #[derive(Drop)]
 pub struct Player {
+    alloc: Global,
     table: Table,
-    /// One for each row.
-    contents: Vec<Content>,
+    /// How many bytes the script of each row has; 0 where it has none.
+    lengths: Vec<usize>,
     ghost idle: { table.executing ≡ None },
-    ghost long: { length contents.items ≡ length table.registered.rows },
+    ghost long: { length lengths.items ≡ length table.registered.rows },
 }
 
 impl Player {
-    ghost use Rattle.rl_drive.specs.Player.{HasPlayed, Plays, Requests, RequestsOne, RunsDue, RunsNext, TakesIn};
+    ghost use Rattle.rl_drive.specs.Player.{HasPlayed, Plays, RefusesAll, RefusesPrivate, Requests, RunsDue, RunsNext, TakesIn};
 
     /// A view of which no step was played.
     pub fn open(alloc: Global, registry: Registry) -> Result<Player, NoMemory>
         ensures rest { IfOk result (λ player. next_row player.table ≡ None) }
         ensures played { IfOk result (λ player. HasPlayed registry [] player) }
     {
-        let contents = open_contents(alloc, &registry)?;
+        let lengths = no_lengths(alloc, &registry)?;
         let table = Table::open(alloc, registry)?;
-        Ok(Player { table, contents })
+        Ok(Player {
+            alloc,
+            table,
+            lengths,
+        })
     }
 
     /// Plays a step: adds its reply, and then a line for each run that it made due.
@@ -62,12 +71,50 @@ impl Player {
         }
     }
 
-    /// Touches the closures of the names, or refuses them all.
-    fn touch(&mut self, names: &[Text]) -> Result<(), ResolveError>
+    /// Whether an answer counts for a row: it is touched, is not skipped and has no outcome.
+    fn counts(&self, row: u32) -> bool
+        requires { row < length self.now.table.registered.rows }
+        ensures { result ≡ counts_at self.now.table row }
+    {
+        self.table.touched(row)
+            && !self.table.registry().skipped(row)
+            && !self.table.has_outcome(row)
+    }
+
+    fn is_private(&self, row: u32) -> bool
+        requires { row < length self.now.table.registered.rows }
+        ensures { result ≡ is_private_at self.now.table row }
+    {
+        matches!(self.table.registry().row_at(row).group, Group::Private)
+    }
+
+    /// Answers a private row with an error, where it counts.
+    fn refuse(&mut self, row: u32)
+        requires { row < length self.old.table.registered.rows }
+        ensures { RefusesPrivate row self.old self.new }
+    {
+        if self.is_private(row) && self.counts(row) {
+            uncounted::outcome::<Brand>(&mut self.table, row, Outcome::Error, Blank::new(1));
+        }
+    }
+
+    /// Answers the private ones of these rows with an error, where they count.
+    fn refuse_all(&mut self, rows: &[u32])
+        requires { All (λ row. row < length self.old.table.registered.rows) rows.now }
+        ensures { RefusesAll rows.now self.old self.new }
+    {
+        for row in rows {
+            self.refuse(*row);
+        }
+    }
+
+    /// Touches the closures of the names, and answers the private rows of them; or refuses them all.
+    fn request(&mut self, names: &[Text]) -> Result<(), ResolveError>
         ensures { Requests result names.now self.old self.new }
     {
         let rows = self.table.registry().resolve_all(names)?;
-        self.table.touch(rows.as_slice());
+        uncounted::touch::<Brand>(&mut self.table, rows.as_slice(), Blank::new(1));
+        self.refuse_all(rows.as_slice());
         Ok(())
     }
 
@@ -75,7 +122,7 @@ impl Player {
     fn using(&mut self, names: &[Text], out: &mut Vec<u8>) -> Result<(), NoMemory>
         ensures { OnOk result (TakesIn (Step.Using names.now) self.old self.new out.old.items out.new.items) }
     {
-        match self.touch(names) {
+        match self.request(names) {
             Ok(()) => write_line(out, "using ok"),
             Err(ResolveError::Unknown { name }) => {
                 write(out, "using unknown ")?;
@@ -89,29 +136,43 @@ impl Player {
         }
     }
 
-    /// Requests a name by itself, and says whether it resolves.
-    fn request(&mut self, name: &Text) -> Result<bool, NoMemory>
-        ensures { RequestsOne result name.now self.old self.new }
+    /// Whether a name resolves.
+    fn resolves(&self, name: &Text) -> Result<bool, NoMemory>
+        ensures { IfOk result (λ answer. answer ≡ resolves self.now.table.registered name.now) }
     {
-        match self.touch(slice::from_ref(name)) {
-            Ok(()) => Ok(true),
+        match self.table.registry().resolve_all(slice::from_ref(name)) {
+            Ok(_) => Ok(true),
             Err(ResolveError::Unknown { .. } | ResolveError::Cycle { .. }) => Ok(false),
             Err(ResolveError::NoMemory) => Err(NoMemory),
         }
+    }
+
+    /// Those of the names that resolve.
+    fn accepted(&self, names: &[Text]) -> Result<Vec<Text>, NoMemory>
+        ensures { IfOk result (λ accepted. accepted.items ≡ accepted_each self.now.table.registered names.now) }
+    {
+        let mut accepted = Vec::new(self.alloc);
+        for name in names {
+            if self.resolves(name)? {
+                accepted.push(name.copy()?)?;
+            }
+        }
+        Ok(accepted)
     }
 
     /// Requests each name that resolves, and counts the others.
     fn load(&mut self, names: &[Text], out: &mut Vec<u8>) -> Result<(), NoMemory>
         ensures { OnOk result (TakesIn (Step.Load names.now) self.old self.new out.old.items out.new.items) }
     {
-        let mut dropped = 0usize;
-        for name in names {
-            if !self.request(name)? {
-                dropped += 1;
-            }
+        let accepted = self.accepted(names)?;
+        match self.request(accepted.as_slice()) {
+            Ok(()) => {}
+            Err(ResolveError::Unknown { .. }) => unreachable!(),
+            Err(ResolveError::Cycle { .. }) => unreachable!(),
+            Err(ResolveError::NoMemory) => return Err(NoMemory),
         }
         write(out, "load dropped ")?;
-        write_number(out, dropped)?;
+        write_number(out, names.len().saturating_sub(accepted.len()))?;
         write_line(out, "")
     }
 
@@ -120,14 +181,7 @@ impl Player {
         ensures { result ≡ counting_row self.now.table name.now }
     {
         let row = self.table.registry().find(name)?;
-        if self.table.touched(row)
-            && !self.table.registry().skipped(row)
-            && !self.table.has_outcome(row)
-        {
-            Some(row)
-        } else {
-            None
-        }
+        if self.counts(row) { Some(row) } else { None }
     }
 
     /// Gives the row of a key its implementation.
@@ -137,10 +191,9 @@ impl Player {
         let Some(row) = self.counting_row(key.name.as_bytes()) else {
             return write_line(out, "passed");
         };
-        self.table.outcome(row, Outcome::Impl);
-        let content = &mut self.contents[row as usize];
-        content.version = Some(key.version);
-        content.script_len = script.as_bytes().len();
+        uncounted::outcome::<Brand>(&mut self.table, row, Outcome::Impl, Blank::new(1));
+        self.table.registry_mut(row, key.version);
+        self.lengths[row as usize] = script.as_bytes().len();
         write_line(out, "used")
     }
 
@@ -151,7 +204,7 @@ impl Player {
         let Some(row) = self.counting_row(name.as_bytes()) else {
             return write_line(out, "passed");
         };
-        self.table.outcome(row, outcome_of(kind));
+        uncounted::outcome::<Brand>(&mut self.table, row, outcome_of(kind), Blank::new(1));
         write_line(out, "used")
     }
 
@@ -159,8 +212,7 @@ impl Player {
     fn run_next(&mut self) -> Option<u32>
         ensures { RunsNext result self.old self.new }
     {
-        let row = self.table.next_run()?;
-        self.table.ran(row, false);
+        let row = uncounted::run_next::<Brand>(&mut self.table, Blank::new(1))?;
         Some(row)
     }
 
@@ -177,21 +229,21 @@ impl Player {
     /// Adds the key of a row.
     fn write_row(&self, row: u32, out: &mut Vec<u8>) -> Result<(), NoMemory>
         requires { row < length self.now.table.registered.rows }
-        ensures { OnOk result (out.new.items ≡ out.old.items ++ key_at self.now.table self.now.contents.items row) }
+        ensures { OnOk result (out.new.items ≡ out.old.items ++ key_at self.now.table row) }
     {
-        let name = self.table.registry().row_at(row).name.as_str();
-        write_key(out, name, &self.contents[row as usize].version)
+        let row = self.table.registry().row_at(row);
+        write_key(out, row.name.as_str(), &row.version)
     }
 
     /// Adds a line with a word, the key of a row and the length of its script.
     fn write_run(&self, word: &str, row: u32, out: &mut Vec<u8>) -> Result<(), NoMemory>
         requires { row < length self.now.table.registered.rows }
-        ensures { OnOk result (out.new.items ≡ out.old.items ++ line (word.now ++ run_at self.now.table self.now.contents.items row)) }
+        ensures { OnOk result (out.new.items ≡ out.old.items ++ line (word.now ++ run_at self.now.table self.now.lengths.items row)) }
     {
         write(out, word)?;
         self.write_row(row, out)?;
         write(out, " ")?;
-        write_number(out, self.contents[row as usize].script_len)?;
+        write_number(out, self.lengths[row as usize])?;
         write_line(out, "")
     }
 
@@ -199,7 +251,7 @@ impl Player {
     fn write_state(&self, row: u32, out: &mut Vec<u8>) -> Result<(), NoMemory>
         requires within { row < length self.now.table.registered.rows }
         requires rest { next_row self.now.table ≡ None }
-        ensures { OnOk result (out.new.items ≡ out.old.items ++ state_at self.now.table self.now.contents.items row) }
+        ensures { OnOk result (out.new.items ≡ out.old.items ++ state_at self.now.table row) }
     {
         write(out, state_word(self.table.state(row)))?;
         write(out, " ")?;
@@ -210,7 +262,7 @@ impl Player {
     /// Adds the touched rows with their states.
     fn write_states(&self, out: &mut Vec<u8>) -> Result<(), NoMemory>
         requires { next_row self.now.table ≡ None }
-        ensures { OnOk result (out.new.items ≡ out.old.items ++ state_lines self.now.table self.now.contents.items) }
+        ensures { OnOk result (out.new.items ≡ out.old.items ++ state_lines self.now.table) }
     {
         for row in 0..self.table.registry().count() {
             if self.table.touched(row) {
@@ -222,7 +274,7 @@ impl Player {
 
     /// Adds the rows that ran, in row order.
     fn write_executed(&self, out: &mut Vec<u8>) -> Result<(), NoMemory>
-        ensures { OnOk result (out.new.items ≡ out.old.items ++ executed_lines self.now.table self.now.contents.items) }
+        ensures { OnOk result (out.new.items ≡ out.old.items ++ executed_lines self.now.table self.now.lengths.items) }
     {
         for row in 0..self.table.registry().count() {
             if self.table.has_run(row) {
@@ -236,10 +288,12 @@ impl Player {
     pub fn summary(&self, out: &mut Vec<u8>) -> Result<(), NoMemory>
         requires { next_row self.now.table ≡ None }
         ensures { OnOk result ((r : Registered) (past : List Step) → HasPlayed r past self.now
-            → out.new.items ≡ out.old.items ++ line (codes "summary") ++ summary_of (quiet r) (events_of r past)) }
+            → out.new.items ≡ out.old.items ++ line (codes "summary") ++ summary_of 0 (quiet r) (events_of r past)) }
     {
         write_line(out, "summary")?;
-        write_line(out, "view 0")?;
+        write(out, "view ")?;
+        write_number(out, 0)?;
+        write_line(out, "")?;
         self.write_states(out)?;
         self.write_executed(out)
     }

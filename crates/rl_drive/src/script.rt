@@ -3,7 +3,7 @@ ghost use Rattle.rl_script_spec.specs.Script.{verdict_of};
 ghost use Rattle.rl_drive.specs.Drives.{Concludes, never};
 
 use crate::steps::{Driven, play};
-use rl_names::{Counted, NoMemory};
+use rl_names::{Counted, NoMemory, Rule};
 use rl_registry::{Registry, RegistryError};
 use rl_script::{Script, ScriptError, read_script};
 use std::alloc::Global;
@@ -13,9 +13,9 @@ use thiserror::Error;
 /// Why a script came to nothing.
 #[derive(Clone, Copy, Debug, PartialEq, Eq, Error)]
 pub enum DriveError {
-    /// The first fault of the script. Lines are counted from 1, and 0 stands for the script as a whole. It is not of the
-    /// grammar (1), a row or features that stand after a step (3), bytes that are not UTF-8 (4) or a name that two rows
-    /// have (22).
+    /// The first fault of the script, by the number of the rule that is broken: a line that is not of the grammar, a row or
+    /// features after a step, bytes that are not UTF-8, or rows that have one name. Lines are counted from 1, and 0 stands
+    /// for the script as a whole.
     #[error("line {line} is bad ({why})")]
     BadInput { line: u32, why: u32 },
     /// More steps or rows than a script may have, or more dependencies than a row may.
@@ -63,7 +63,14 @@ impl From<RegistryError> for DriveError {
     fn from(error: RegistryError) -> Self {
         match error {
             RegistryError::TooMany { what, count } => DriveError::TooLarge { what, count },
-            RegistryError::Duplicate { .. } => DriveError::BadInput { line: 0, why: 22 },
+            RegistryError::Duplicate { .. } => DriveError::BadInput {
+                line: 0,
+                why: Rule::Duplicate.number(),
+            },
+            RegistryError::BadIndex { .. } => DriveError::BadInput {
+                line: 0,
+                why: Rule::BadIndex.number(),
+            },
             RegistryError::NoMemory => DriveError::NoMemory,
         }
     }
@@ -74,7 +81,10 @@ pub fn drive(alloc: Global, bytes: &[u8]) -> Result<Driven, DriveError>
     ensures { Concludes result (verdict_of never bytes.now) }
 {
     let Ok(text) = str::from_utf8(bytes) else {
-        return Err(DriveError::BadInput { line: 0, why: 4 });
+        return Err(DriveError::BadInput {
+            line: 0,
+            why: Rule::NotUtf8.number(),
+        });
     };
     let Script {
         rows,

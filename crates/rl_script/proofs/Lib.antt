@@ -1,3 +1,3 @@
-pub mod Members
-pub mod Texts
-pub mod Lines
+pub mod MembersLemmas
+pub mod TextsLemmas
+pub mod LinesLemmas

@@ -1,17 +1,15 @@
-ghost use Rattle.std.specs.Prelude.{◌≡◌, ◌+◌, ℕ, [], IfOk, min};
+//! A whole script, line by line.
+ghost use Rattle.std.specs.Prelude.{◌≡◌, ◌+◌, IfOk};
 ghost use Rattle.rl_view_spec.specs.Rows.{AreRegistrable};
-ghost use Rattle.rl_script_spec.specs.Script.{trimmed, is_ignored, said_of, lines_of, capped};
+ghost use Rattle.rl_script_spec.specs.Script.{trimmed, is_ignored, said_of, lines_of};
 ghost use Rattle.rl_script.specs.Reads.{Reads, TakesIn};
 ghost use Rattle.rl_script.specs.declared.script.ScriptError.TheVariants.{NoMemory};
 
 use crate::line::read_line;
-use rl_names::{NoMemory, Row, Text};
+use rl_names::{MAX_STEPS, NoMemory, Row, Rule, Text};
 use rl_script_spec::{Line, Step};
 use std::alloc::{AllocError, AllocFailed, Global};
 use thiserror::Error;
-
-/// How many steps a script may have.
-const MAX_STEPS: usize = 65_536;
 
 /// What a script says: the rows of the registry, the features of the view, which are those of the last line that names
 /// any, and the steps in order.
@@ -25,10 +23,11 @@ pub struct Script {
 /// Why a text is no script.
 #[derive(Clone, Copy, Debug, PartialEq, Eq, Error)]
 pub enum ScriptError {
-    /// The first line at fault, counted from 1: it is not of the grammar (1), or is a row or features after a step (3).
+    /// The first line at fault, counted from 1, and the number of the rule that it breaks: it is not of the grammar, or is
+    /// a row or features after a step.
     #[error("line {line} may not stand there ({why})")]
     BadLine { line: u32, why: u32 },
-    /// The 65,537th step. No more is read, so the count is always 65,537.
+    /// A step after as many others as there may be. No more is read, so the count is always one more than the limit.
     #[error("{count} steps are too many")]
     TooMany { count: u64 },
     #[error("out of memory")]
@@ -59,12 +58,12 @@ impl Script {
         match line {
             Line::Faulty => Err(ScriptError::BadLine {
                 line: number,
-                why: 1,
+                why: Rule::Grammar.number(),
             }),
             Line::Registers(_) | Line::HasFeatures(_) if !self.steps.is_empty() => {
                 Err(ScriptError::BadLine {
                     line: number,
-                    why: 3,
+                    why: Rule::OutOfPlace.number(),
                 })
             }
             Line::Registers(row) => Ok(self.rows.push(row)?),
@@ -72,8 +71,8 @@ impl Script {
                 self.features = features.into_vec();
                 Ok(())
             }
-            Line::Does(_) if self.steps.len() >= MAX_STEPS => Err(ScriptError::TooMany {
-                count: MAX_STEPS as u64 + 1,
+            Line::Does(_) if self.steps.len() as u64 >= MAX_STEPS => Err(ScriptError::TooMany {
+                count: MAX_STEPS + 1,
             }),
             Line::Does(step) => Ok(self.steps.push(step)?),
         }

@@ -1,5 +1,6 @@
-pub mod Order
-pub mod Printed
-pub mod Registrable
-mod Lines
+pub mod OrderLemmas
+pub mod PrintedLemmas
+pub mod RegistrableLemmas
+mod LinesLemmas
 mod Worked
+pub mod TellingLemmas

@@ -5,17 +5,17 @@ use Rattle.std.specs.Fmt.{digits}
 use Rattle.std.specs.Str.{is_utf8, chars}
 use Rattle.serde_json.proofs.OnLiterals.{serde_json_on_literals}
 use lib.Utf8.{encode}
+use Rattle.rl_names.specs.Rules.{number_of}
 use Rattle.rl_names.specs.declared.counted.Counted.TheVariants as counted
 use Rattle.rl_names.specs.declared.row.Dep.TheVariants.{Named}
 use Rattle.rl_names.specs.declared.row.Group.TheVariants.{Plain}
 use Rattle.rl_names.specs.declared.row.Row.{Row}
+use Rattle.rl_names.specs.declared.rule.Rule.TheVariants as rules
 use Rattle.rl_view_spec.specs.Breach.{breach_of, TooMany, Duplicate}
 use Rattle.rl_view_spec.specs.Closure.{Text}
-use Rattle.rl_view_spec.specs.View.{View, Throws, log_of}
-use Rattle.rl_script_spec.specs.Output.{line, output_of}
+use Rattle.rl_view_spec.specs.View.{Throws, log_of}
+use Rattle.rl_script_spec.specs.Output.{line}
 use Rattle.rl_script_spec.specs.Script.{verdict_of, view_of, history_of, Prints, BadLine}
-use Rattle.rl_script_spec.specs.declared.Step.{Step}
-use Rattle.rl_script_spec.specs.declared.Step.TheVariants.{Using, Load, Impl}
 
 abbrev never : Throws
 never name version script = false
@@ -77,7 +77,8 @@ nothing_touched reply = line reply ++ line (codes "summary") ++ line (codes "vie
 abbrev two : Text → Text
 two deps = line (codes "[\"row\",\"A\",\"aaaaa\",[\"B\"]]") ++ line (codes "[\"row\",\"B\",\"bbbbb\"," ++ deps ++ codes "]")
 
-unknown_name : verdict_of never (two (codes "[\"A\",\"zz\",\"nn\"]") ++ line (codes "[\"using\",[\"A\"]]")) ≡ Prints (nothing_touched (codes "using unknown nn")) false
+unknown_name : verdict_of never (two (codes "[\"A\",\"zz\",\"nn\"]") ++ line (codes "[\"using\",[\"A\"]]"))
+    ≡ Prints (nothing_touched (codes "using unknown nn")) false
 unfolding digits serde_json_on_literals is_utf8 chars encode
 unknown_name = refl
 
@@ -85,53 +86,61 @@ cycle : verdict_of never (two (codes "[\"A\"]") ++ line (codes "[\"using\",[\"A\
 unfolding digits serde_json_on_literals is_utf8 chars encode
 cycle = refl
 
-load_of_cycle : output_of (view_of never (two (codes "[\"A\"]"))) (Load (codes "A" ∷ []) ∷ []) ≡ nothing_touched (codes "load dropped 1")
-unfolding digits serde_json_on_literals
+load_of_cycle : verdict_of never (two (codes "[\"A\"]") ++ line (codes "[\"load\",[\"A\"]]")) ≡ Prints (nothing_touched (codes "load dropped 1")) false
+unfolding digits serde_json_on_literals is_utf8 chars encode
 load_of_cycle = refl
 
 -- ---- a skipped dependency brings nothing, and is ready
 
-abbrev row : Text → Text → List Text → Row
-row name version deps = record { name = name; version = Some version; deps = map Named deps; group = Plain; source = []; skip = None }
-
-abbrev part : Text → Text → Text → Step
-part name version script = Impl (record { name = name; version = version }) script
-
-abbrev with_skip : View
-with_skip = record {
-  registered = record {
-    rows = row (codes "A") (codes "aaaaa") (codes "B" ∷ []) ∷ record (row (codes "B") (codes "bbbbb") (codes "C" ∷ [])) { skip = Some (codes "promise") } ∷ row (codes "C") (codes "ccccc") [] ∷ [];
-    features = codes "promise" ∷ [];
-  };
-  throws = never;
-}
+abbrev with_skip : Text
+with_skip =
+    line (codes "[\"row\",\"A\",\"aaaaa\",[\"B\"]]") ++ line (codes "[\"row\",\"B\",\"bbbbb\",[\"C\"],null,null,\"promise\"]")
+    ++ line (codes "[\"row\",\"C\",\"ccccc\"]") ++ line (codes "[\"features\",[\"promise\"]]")
 
 skipped_dependency :
-    output_of with_skip (part (codes "A") (codes "aaaaa") (codes "a()") ∷ Using (codes "A" ∷ []) ∷ []) ≡
-    line (codes "using ok") ++ line (codes "used") ++ line (codes "ran A@aaaaa 3") ++ line (codes "summary") ++ line (codes "view 0")
-    ++ line (codes "ready A@aaaaa") ++ line (codes "ready B@bbbbb") ++ line (codes "executed A@aaaaa 3")
-unfolding digits
+    verdict_of never (with_skip ++ line (codes "[\"using\",[\"A\"]]") ++ line (codes "[\"impl\",\"A@aaaaa\",\"a()\"]")) ≡ Prints
+    (line (codes "using ok") ++ line (codes "used") ++ line (codes "ran A@aaaaa 3") ++ line (codes "summary") ++ line (codes "view 0")
+    ++ line (codes "ready A@aaaaa") ++ line (codes "ready B@bbbbb") ++ line (codes "executed A@aaaaa 3"))
+    true
+unfolding digits serde_json_on_literals is_utf8 chars encode
 skipped_dependency = refl
 
+-- ---- a private row is in error as soon as it is touched, and its part is passed over
+
+private_row :
+    verdict_of never
+    (line (codes "[\"row\",\"A\",\"aaaaa\",[\"P\"]]") ++ line (codes "[\"row\",\"P\",null,[],1]") ++ line (codes "[\"load\",[\"A\"]]")
+    ++ line (codes "[\"impl\",\"P@ppppp\",\"p()\"]") ++ line (codes "[\"impl\",\"A@aaaaa\",\"a()\"]")) ≡ Prints
+    (line (codes "load dropped 0") ++ line (codes "passed") ++ line (codes "used") ++ line (codes "summary") ++ line (codes "view 0")
+    ++ line (codes "error A@aaaaa") ++ line (codes "error P"))
+    false
+unfolding digits serde_json_on_literals is_utf8 chars encode
+private_row = refl
+
 -- ---- limits of a registry
+
+abbrev row : Text → Text → List Text → Row
+row name version deps = record { name = name; version = Some version; deps = map Named deps; group = Plain; source = []; skip = None }
 
 rows_at_limit : breach_of (replicate 4097 (row (codes "a") (codes "aaaaa") [])) ≡ Some (TooMany counted.Rows 4097)
 rows_at_limit = refl
 
-deps_at_limit : breach_of (row (codes "a") (codes "aaaaa") (replicate 256 (codes "b")) ∷ row (codes "b") (codes "bbbbb") (replicate 257 (codes "c")) ∷ []) ≡ Some (TooMany counted.Dependencies 257)
+deps_at_limit : breach_of (row (codes "a") (codes "aaaaa") (replicate 256 (codes "b")) ∷ row (codes "b") (codes "bbbbb") (replicate 257 (codes "c")) ∷ [])
+    ≡ Some (TooMany counted.Dependencies 257)
 deps_at_limit = refl
 
 least_repeated :
-    breach_of (row (codes "b") (codes "bbbbb") [] ∷ row (codes "a") (codes "aaaaa") [] ∷ row (codes "b") (codes "bbbbb") [] ∷ row (codes "a") (codes "aaaaa") [] ∷ []) ≡
+    breach_of (row (codes "b") (codes "bbbbb") [] ∷ row (codes "a") (codes "aaaaa") [] ∷ row (codes "b") (codes "bbbbb") []
+    ∷ row (codes "a") (codes "aaaaa") [] ∷ []) ≡
     Some (Duplicate (codes "a"))
 least_repeated = refl
 
-repeated_row : verdict_of never (three_rows ++ three_rows) ≡ BadLine 0 22
+repeated_row : verdict_of never (three_rows ++ three_rows) ≡ BadLine 0 (number_of rules.Duplicate)
 unfolding serde_json_on_literals is_utf8 chars encode
 repeated_row = refl
 
 -- ---- bytes that are no text
 
-no_text : verdict_of never (line (codes "[]") ++ 195 ∷ []) ≡ BadLine 0 4
+no_text : verdict_of never (line (codes "[]") ++ 195 ∷ []) ≡ BadLine 0 (number_of rules.NotUtf8)
 unfolding is_utf8 chars encode
 no_text = refl

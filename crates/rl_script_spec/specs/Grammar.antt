@@ -1,5 +1,7 @@
 -- The grammar of a line of a `drive` script: a JSON array of a word and the members that belong to it.
-use Rattle.std.specs.Prelude.{ℕ, ◌^◌, ◌&&◌, ◌||◌, ◌==◌, ◌∷◌, [], List, Bool, if◌then◌else◌, bytes_eq, codes, length, map, nat_le, nat_lt, Option, Some, None, option_and_then, option_map, unwrap_or}
+use Rattle.std.specs.Prelude.{ℕ, ◌^◌, ◌==◌, ◌∷◌, [], List, Bool, if◌then◌else◌, bytes_eq, codes, length, map, nat_lt, slice_get, Option}
+use Rattle.std.specs.Prelude.{Some, None, option_and_then, option_map, unwrap_or}
+use Rattle.std.specs.Option.{option_map_or}
 use Rattle.std.specs.Result.{result_ok}
 use Rattle.serde_json.specs.Data.{Data, null, Items, no_items, item}
 use Rattle.serde_json.specs.Read.{read}
@@ -79,37 +81,35 @@ kind_named word =
 
 -- ---- what the members after a word say: nothing where they are not of the grammar
 
--- a row of these members, with these dependencies
-abbrev pub row_of_members : Data → Data → List Dep → Data → Data → Data → Option Line
-row_of_members name version deps group source skip = do
-  named ← text_if is_name name
-  grouped ← group_in group
-  versioned ← version_in grouped version
-  sourced ← source_in source
-  skipped ← skip_in skip
-  Some (Registers (record { name = named; version = versioned; deps = deps; group = grouped; source = sourced; skip = skipped }))
+-- a member that is left out is as `null`
+abbrev pub or_null : Option Data → Data
+or_null member = unwrap_or member null
 
--- Name, version, dependencies, group, source and skip. Trailing members may be left out: there are then no dependencies,
--- and each other is as `null`.
+-- Name and version, and then dependencies, group, source and skip, of which trailing ones may be left out: there are then
+-- no dependencies, and each other is as `null`.
 abbrev pub row_line : List Data → Option Line
-row_line (name ∷ version ∷ []) = row_of_members name version [] null null null
-row_line (name ∷ version ∷ deps ∷ []) = deps_in deps >>= λ named. row_of_members name version named null null null
-row_line (name ∷ version ∷ deps ∷ group ∷ []) = deps_in deps >>= λ named. row_of_members name version named group null null
-row_line (name ∷ version ∷ deps ∷ group ∷ source ∷ []) = deps_in deps >>= λ named. row_of_members name version named group source null
-row_line (name ∷ version ∷ deps ∷ group ∷ source ∷ skip ∷ []) = deps_in deps >>= λ named. row_of_members name version named group source skip
-row_line other = None
+row_line members = if nat_lt 6 (length members) then None else do
+  named ← slice_get members 0 >>= text_if is_name
+  grouped ← group_in (or_null (slice_get members 3))
+  versioned ← slice_get members 1 >>= version_in grouped
+  needed ← option_map_or deps_in (slice_get members 2) (Some [])
+  sourced ← source_in (or_null (slice_get members 4))
+  skipped ← skip_in (or_null (slice_get members 5))
+  Some (Registers (record { name = named; version = versioned; deps = needed; group = grouped; source = sourced; skip = skipped }))
+
+-- the texts of a list that stands alone
+abbrev pub only_texts : List Data → Option (List Text)
+only_texts (texts ∷ []) = texts_in texts
+only_texts other = None
 
 abbrev pub features_line : List Data → Option Line
-features_line (features ∷ []) = option_map HasFeatures (texts_in features)
-features_line other = None
+features_line members = option_map HasFeatures (only_texts members)
 
 abbrev pub using_line : List Data → Option Line
-using_line (names ∷ []) = option_map (λ texts. Does (Using texts)) (texts_in names)
-using_line other = None
+using_line members = option_map (λ names. Does (Using names)) (only_texts members)
 
 abbrev pub load_line : List Data → Option Line
-load_line (names ∷ []) = option_map (λ texts. Does (Load texts)) (texts_in names)
-load_line other = None
+load_line members = option_map (λ names. Does (Load names)) (only_texts members)
 
 -- a key text and a script
 abbrev pub impl_line : List Data → Option Line
@@ -121,12 +121,11 @@ impl_line other = None
 
 -- a name, which may be any text, and `missing` or `error`
 abbrev pub state_line : List Data → Option Line
-state_line (name ∷ kind ∷ []) = do
-  named ← as_str name
-  word ← as_str kind
-  answer ← kind_named word
-  Some (Does (State named answer))
-state_line other = None
+state_line members = if nat_lt 2 (length members) then None else do
+  named ← slice_get members 0 >>= as_str
+  word ← slice_get members 1 >>= as_str
+  kind ← kind_named word
+  Some (Does (State named kind))
 
 abbrev pub word_line : Text → List Data → Option Line
 word_line word members =
@@ -138,19 +137,10 @@ word_line word members =
     else if bytes_eq word (codes "state") then state_line members
     else None
 
--- The lines that `drive` takes so far: rows with at most name, version and dependencies, and the words `using` and `impl`.
--- Every other line counts as not of the grammar.
-abbrev pub is_taken : Text → List Data → Bool
-is_taken word members =
-    (bytes_eq word (codes "row") && nat_le (length members) 3) || bytes_eq word (codes "using") || bytes_eq word (codes "impl")
-
-abbrev pub taken_line : Text → List Data → Option Line
-taken_line word members = if is_taken word members then word_line word members else None
-
 -- the word, and what it says with the other members
 abbrev pub members_line : List Data → Option Line
 members_line [] = None
-members_line (word ∷ members) = as_str word >>= λ text. taken_line text members
+members_line (word ∷ members) = as_str word >>= λ text. word_line text members
 
 -- what a line says that is not ignored
 abbrev pub line_of : Text → Line

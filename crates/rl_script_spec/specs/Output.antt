@@ -1,9 +1,10 @@
 -- What `drive` prints for a registry and the steps of a script.
-use Rattle.std.specs.Prelude.{◌&&◌, ◌++◌, List, [], ◌∷◌, Bool, true, false, not, if◌then◌else◌, length, filter, map, flat_map, drop, Option, Some, None, is_none, codes, decimal, count_by, nat_eq}
+use Rattle.std.specs.Prelude.{ℕ, ◌&&◌, ◌++◌, List, [], ◌∷◌, Bool, true, false, not, if◌then◌else◌, length, filter, map, flat_map, drop}
+use Rattle.std.specs.Prelude.{Option, Some, None, is_none, codes, decimal, count_by, nat_eq}
 use Rattle.std.specs.List.{list_all, list_any}
-use Rattle.rl_names.specs.Name.{key_text}
-use Rattle.rl_names.specs.declared.row.Row.{Row}
-use Rattle.rl_view_spec.specs.Closure.{Text, Registered, row_of, is_skipped, Refusal, Unknown, Cycle, refusal_of, resolves}
+use Rattle.rl_view_spec.specs.Closure.{Text, Registered, Refusal, Unknown, Cycle, refusal_of, resolves}
+pub use Rattle.rl_view_spec.specs.Keys.{counts, version_of, script_of, row_version, key_or_name, key_of}
+use Rattle.rl_view_spec.specs.Requests.{accepted, accepted_each, answer_alone, request}
 use Rattle.rl_view_spec.specs.View.{Answer, Implementation, Missing, Failed, Event, View, is_touched, first_of, state_of, throws_at, log_of}
 use Rattle.rl_view_spec.specs.Progress.{name_at, row_numbers}
 use Rattle.rl_view_spec.specs.declared.Phase.{Phase}
@@ -18,10 +19,11 @@ abbrev pub answer_of : StateKind → Answer
 answer_of kinds.Missing = Missing
 answer_of kinds.Error = Failed
 
--- What a step does: a request that is refused, and a name that is dropped, ask for nothing.
+-- What a step does: a request that is refused, and a name that is dropped, ask for nothing. A request brings an error for
+-- each private row that it touches.
 abbrev pub event_of : Registered → Step → Event
-event_of r (Using names) = record { requested = if is_none (refusal_of r names) then names else []; came = [] }
-event_of r (Load names) = record { requested = filter (resolves r) names; came = [] }
+event_of r (Using names) = request answer_alone r (accepted r names)
+event_of r (Load names) = request answer_alone r (accepted_each r names)
 event_of r (Impl key script) = record { requested = []; came = (key.name, Implementation key.version script) ∷ [] }
 event_of r (State name kind) = record { requested = []; came = (name, answer_of kind) ∷ [] }
 
@@ -37,10 +39,6 @@ refused_line None = codes "using ok"
 refused_line (Some (Unknown name)) = codes "using unknown " ++ name
 refused_line (Some (Cycle name)) = codes "using cycle " ++ name
 
--- a part counts where its row is touched, is not skipped and has no outcome yet
-abbrev pub counts : View → List Event → Text → Bool
-counts v past name = is_touched v past name && not (is_skipped v.registered name) && is_none (first_of v past name)
-
 abbrev pub part_line : Bool → Text
 part_line used = if used then codes "used" else codes "passed"
 
@@ -49,26 +47,6 @@ reply_line v past (Using names) = refused_line (refusal_of v.registered names)
 reply_line v past (Load names) = codes "load dropped " ++ decimal (count_by (λ name. not (resolves v.registered name)) names)
 reply_line v past (Impl key script) = part_line (counts v past key.name)
 reply_line v past (State name kind) = part_line (counts v past name)
-
--- the version of a row is that of its outcome where this is an implementation
-abbrev pub version_of : Option Answer → Option Text → Option Text
-version_of (Some (Implementation version script)) registered = Some version
-version_of other registered = registered
-
-abbrev pub script_of : Option Answer → Text
-script_of (Some (Implementation version script)) = script
-script_of other = []
-
-abbrev pub key_or_name : Text → Option Text → Text
-key_or_name name None = name
-key_or_name name (Some version) = key_text name version
-
-abbrev pub row_version : Option Row → Option Text
-row_version None = None
-row_version (Some row) = row.version
-
-abbrev pub key_of : View → List Event → Text → Text
-key_of v past name = key_or_name name (version_of (first_of v past name) (row_version (row_of v.registered name)))
 
 -- a key, and how long its script is
 abbrev pub run_text : View → List Event → Text → Text
@@ -103,14 +81,29 @@ state_line v past name = line (state_word (state_of v past name) ++ codes " " ++
 abbrev pub names_where : Registered → (Text → Bool) → List Text
 names_where r test = filter test (map (λ row. row.name) r.rows)
 
--- the touched rows with their states, then the rows that ran, both in row order
-abbrev pub summary_of : View → List Event → Text
-summary_of v past =
-    line (codes "view 0") ++ flat_map (state_line v past) (names_where v.registered (is_touched v past))
-    ++ flat_map (λ row. line (codes "executed " ++ run_text v past (name_at v.registered row))) (filter (λ row. list_any (nat_eq row) (log_of v past)) (row_numbers v.registered))
+-- ---- the summary of a view, by its parts
+
+abbrev pub view_line : ℕ → Text
+view_line number = line (codes "view " ++ decimal number)
+
+-- the touched rows with their states, in row order
+abbrev pub states_told : View → List Event → Text
+states_told v past = flat_map (state_line v past) (names_where v.registered (is_touched v past))
+
+abbrev pub executed_line : View → List Event → Text → Text
+executed_line v past name = line (codes "executed " ++ run_text v past name)
+
+-- the rows that ran, in row order
+abbrev pub executed_told : View → List Event → Text
+executed_told v past =
+    flat_map (λ row. executed_line v past (name_at v.registered row))
+    (filter (λ row. list_any (nat_eq row) (log_of v past)) (row_numbers v.registered))
+
+abbrev pub summary_of : ℕ → View → List Event → Text
+summary_of number v past = view_line number ++ states_told v past ++ executed_told v past
 
 abbrev pub output_of : View → List Step → Text
-output_of v past = replies_of v past ++ line (codes "summary") ++ summary_of v (events_of v.registered past)
+output_of v past = replies_of v past ++ line (codes "summary") ++ summary_of 0 v (events_of v.registered past)
 
 abbrev pub is_ready : Phase → Bool
 is_ready phase.Ready = true

@@ -3,9 +3,13 @@ use Rattle.std.specs.Prelude.{ℕ, ◌+◌, ◌==◌, ◌∷◌, [], List, Bool,
 use Rattle.std.specs.List.{slice_split}
 use Rattle.std.specs.Option.{option_map_or, option_or}
 use Rattle.std.specs.Str.{is_utf8}
+use Rattle.rl_names.specs.Limits.{limit_of}
+use Rattle.rl_names.specs.Rules.{number_of}
 use Rattle.rl_names.specs.declared.counted.Counted.{Counted}
 use Rattle.rl_names.specs.declared.counted.Counted.TheVariants as counted
 use Rattle.rl_names.specs.declared.row.Row.{Row}
+use Rattle.rl_names.specs.declared.rule.Rule.{Rule}
+use Rattle.rl_names.specs.declared.rule.Rule.TheVariants as rules
 use Rattle.rl_view_spec.specs.Breach as breach
 use Rattle.rl_view_spec.specs.Closure.{Text, Registered}
 use Rattle.rl_view_spec.specs.View.{Event, View, Throws}
@@ -67,18 +71,18 @@ registered_in lines = record { rows = rows_in lines; features = option_map_or (�
 
 -- ---- faults
 
--- a line is bad, or is one step more than a script may have
+-- a line breaks a rule, or is one step more than a script may have
 pub data Fault : Type 0 where
-  Bad : (why : ℕ) → Fault
+  Bad : (rule : Rule) → Fault
   TooManySteps : Fault
 
--- Why a line may not stand after so many steps, if it may not. It is not of the grammar (1), is a row or features after
--- a step (3), or is a step after 65,536 others.
+-- Why a line may not stand after so many steps, if it may not: it is not of the grammar, it is a row or features after a
+-- step, or it is a step after as many others as there may be.
 abbrev pub fault_after : ℕ → Line → Option Fault
-fault_after steps Faulty = Some (Bad 1)
-fault_after steps (Registers row) = if steps == 0 then None else Some (Bad 3)
-fault_after steps (HasFeatures features) = if steps == 0 then None else Some (Bad 3)
-fault_after steps (Does step) = if nat_lt steps 65536 then None else Some TooManySteps
+fault_after steps Faulty = Some (Bad rules.Grammar)
+fault_after steps (Registers row) = if steps == 0 then None else Some (Bad rules.OutOfPlace)
+fault_after steps (HasFeatures features) = if steps == 0 then None else Some (Bad rules.OutOfPlace)
+fault_after steps (Does step) = if nat_lt steps (limit_of counted.Steps) then None else Some TooManySteps
 
 abbrev pub steps_with : ℕ → Line → ℕ
 steps_with steps (Does step) = steps + 1
@@ -87,7 +91,8 @@ steps_with steps other = steps
 -- the first line that may not stand where it does, and why, of lines that stand after so many steps
 abbrev pub first_fault : ℕ → List (ℕ × Line) → Option (ℕ × Fault)
 first_fault steps [] = None
-first_fault steps ((number, line) ∷ lines) = option_map_or (λ fault. Some (number, fault)) (fault_after steps line) (first_fault (steps_with steps line) lines)
+first_fault steps ((number, line) ∷ lines) = option_map_or (λ fault. Some (number, fault)) (fault_after steps line)
+    (first_fault (steps_with steps line) lines)
 
 -- ---- what `drive` makes of a file
 
@@ -103,13 +108,13 @@ abbrev pub capped : ℕ → ℕ
 capped number = min number 4294967295
 
 abbrev pub fault_verdict : ℕ × Fault → Verdict
-fault_verdict (number, Bad why) = BadLine (capped number) why
-fault_verdict (number, TooManySteps) = TooMany counted.Steps 65537
+fault_verdict (number, Bad broken) = BadLine (capped number) (number_of broken)
+fault_verdict (number, TooManySteps) = TooMany counted.Steps (limit_of counted.Steps + 1)
 
--- a name that stands twice is 22
 abbrev pub breach_verdict : breach.Breach → Verdict
 breach_verdict (breach.TooMany what count) = TooMany what count
-breach_verdict (breach.Duplicate name) = BadLine 0 22
+breach_verdict (breach.Duplicate name) = BadLine 0 (number_of rules.Duplicate)
+breach_verdict (breach.BadIndex row index) = BadLine 0 (number_of rules.BadIndex)
 
 -- the view that a script speaks of, its steps in order, and what they came to
 abbrev pub view_of : Throws → Text → View
@@ -125,9 +130,10 @@ history_of throws bytes = events_of (view_of throws bytes).registered (reverse (
 abbrev pub printed : Throws → Text → Verdict
 printed throws bytes = Prints (output_of (view_of throws bytes) (reverse (steps_of bytes))) (all_ready (view_of throws bytes) (reverse (steps_of bytes)))
 
--- The first of these that holds: bytes that are not UTF-8 (4), a line at fault, and a breach of the registry's rules.
+-- The first of these that holds: bytes that are not UTF-8, a line at fault, and a breach of the registry's rules.
 abbrev pub verdict_of : Throws → Text → Verdict
 verdict_of throws bytes =
     if is_utf8 bytes
-    then option_map_or fault_verdict (first_fault 0 (lines_of bytes)) (option_map_or breach_verdict (breach.breach_of (rows_in (lines_of bytes))) (printed throws bytes))
-    else BadLine 0 4
+    then option_map_or fault_verdict (first_fault 0 (lines_of bytes))
+    (option_map_or breach_verdict (breach.breach_of (rows_in (lines_of bytes))) (printed throws bytes))
+    else BadLine 0 (number_of rules.NotUtf8)

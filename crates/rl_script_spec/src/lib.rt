@@ -1,7 +1,7 @@
 //! What the lines of a script say and what is printed for them, as definitions.
 #![tactic(auto)]
 
-ghost use Rattle.rl_script_spec.specs.Laws.{SameSummaries, StepsAreLawful, ScriptsHold, RowsAreRegistrable, PrintedHolds};
+ghost use Rattle.rl_script_spec.specs.Laws.{SameSummaries, StepsAreLawful, ScriptsHold, RowsAreRegistrable, PrintedHolds, RepliesTellLog};
 
 use rl_names::{Key, Row, Seq, StateKind, Text};
 
@@ -31,4 +31,5 @@ pub fn script_laws()
     ensures scripts { ScriptsHold }
     ensures registrable { RowsAreRegistrable }
     ensures printed { PrintedHolds }
+    ensures told { RepliesTellLog }
 {}

@@ -4,14 +4,16 @@ use Rattle.rl_view_spec.specs.Closure.{Text, Registered}
 use Rattle.rl_registry.specs.Answered.{Registers}
 use Rattle.rl_script.specs.Reads.{Tells}
 use Rattle.rl_script_spec.specs.Output.{all_ready, output_of}
-use Rattle.rl_script_spec.specs.Script.{first_fault, lines_of, registered_in, steps_in}
+use Rattle.rl_script_spec.specs.Script.{BadLine, first_fault, lines_of, registered_in, steps_in, verdict_of}
 use Rattle.rl_script_spec.specs.declared.Step.{Step}
-use Rattle.rl_drive.specs.Drives.{quiet}
-use Rattle.rl_drive.proofs.Concluding.{at_fault, is_played, no_registry, no_text, said}
+use Rattle.rl_drive.specs.Drives.{never, quiet}
+use Rattle.rl_drive.proofs.ConcludingLemmas.{at_fault, is_played, no_registry, no_text, said, told}
 use Rattle.rl_drive.proofs.script.drive.Goals as goal
 
 pub returns-in_default : goal.returns-in_default
-returns-in_default c = no_text c.args.bytes.now c.in_default.ensures.cases.0
+returns-in_default c = λ refusal p.
+    told (BadLine 0 c.number.result) refusal (verdict_of never c.args.bytes.now) p
+    (no_text c.args.bytes.now c.in_default.ensures.cases.0 ∙ ap (BadLine 0) (sym c.number.ensures))
 
 pub returns-in_err-rows : goal.returns-in_err-rows
 returns-in_err-rows c =
@@ -26,19 +28,21 @@ returns-in_err-registry c =
     let text : c.in-Ok.text.now ≡ c.args.bytes.now = c.in-Ok.ensures.cases.0 in
     rw (p.1, p.2)
     (no_registry c.args.bytes.now (said c.in_ok-rows.field-0.rows c.in_ok-rows.field-0.features) c.in_err-registry.field-0.0 c.in-Ok.ensures.cases.1
-    (subst (λ (bytes : Text). first_fault 0 (lines_of bytes) ≡ None) text c.in_ok-rows.ensures.answer.0)
-    (ap (λ (bytes : Text). registered_in (lines_of bytes)) (sym text) ∙ c.in_ok-rows.ensures.answer.1)
-    (subst (λ (features : List Text). Registers (Err c.in_err-registry.field-0.0) c.in_ok-rows.field-0.rows.items features) c.as_slice.ensures.value c.in_err-registry.ensures))
+    (subst (λ (bytes : Text). first_fault 0 (lines_of bytes) ≡ None) text c.in_ok-rows.ensures.answer.whole)
+    (ap (λ (bytes : Text). registered_in (lines_of bytes)) (sym text) ∙ c.in_ok-rows.ensures.answer.registered)
+    (subst (λ (features : List Text). Registers (Err c.in_err-registry.field-0.0) c.in_ok-rows.field-0.rows.items features) c.as_slice.ensures.value
+    c.in_err-registry.ensures))
 
 pub returns : goal.returns
 returns c =
     let text : c.in-Ok.text.now ≡ c.args.bytes.now = c.in-Ok.ensures.cases.0 in
     let r : Registered = said c.in_ok-rows.field-0.rows c.in_ok-rows.field-0.features in
-    let registry : c.in_ok-registry.registry ≡ r = c.in_ok-registry.ensures.1 ∙ ap (λ (features : List Text). record { rows = c.in_ok-rows.field-0.rows.items; features = features }) c.as_slice.ensures.value in
+    let registry : c.in_ok-registry.registry ≡ r = c.in_ok-registry.ensures.1
+    ∙ ap (λ (features : List Text). record { rows = c.in_ok-rows.field-0.rows.items; features = features }) c.as_slice.ensures.value in
     is_played c.args.bytes.now r c.in_ok-rows.field-0.steps.items c.in_ok-driven.driven.text.items c.in_ok-driven.driven.ready c.in-Ok.ensures.cases.1
-    (subst (λ (bytes : Text). first_fault 0 (lines_of bytes) ≡ None) text c.in_ok-rows.ensures.answer.0)
-    (ap (λ (bytes : Text). registered_in (lines_of bytes)) (sym text) ∙ c.in_ok-rows.ensures.answer.1)
-    (ap (λ (bytes : Text). steps_in (lines_of bytes)) (sym text) ∙ c.in_ok-rows.ensures.answer.2)
+    (subst (λ (bytes : Text). first_fault 0 (lines_of bytes) ≡ None) text c.in_ok-rows.ensures.answer.whole)
+    (ap (λ (bytes : Text). registered_in (lines_of bytes)) (sym text) ∙ c.in_ok-rows.ensures.answer.registered)
+    (ap (λ (bytes : Text). steps_in (lines_of bytes)) (sym text) ∙ c.in_ok-rows.ensures.answer.steps)
     c.in_ok-registry.ensures.0
     (c.in_ok-driven.ensures.text ∙ ap₂ (λ (r : Registered) (steps : List Step). output_of (quiet r) (reverse steps)) registry c.as_slice-2.ensures.value)
     (c.in_ok-driven.ensures.ready ∙ ap₂ (λ (r : Registered) (steps : List Step). all_ready (quiet r) (reverse steps)) registry c.as_slice-2.ensures.value)

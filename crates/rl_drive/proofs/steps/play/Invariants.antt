@@ -1,4 +1,4 @@
-use Rattle.rl_drive.proofs.Playing.{Playing}
+use Rattle.rl_drive.proofs.PlayingLemmas.{Playing}
 use Rattle.rl_drive.proofs.steps.play.Given as goal
 
 abbrev pub invariant-loop-step : goal.invariant-loop-step

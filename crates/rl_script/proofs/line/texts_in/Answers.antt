@@ -1,4 +1,4 @@
-use Rattle.rl_script.proofs.Members.{array_texts}
+use Rattle.rl_script.proofs.MembersLemmas.{array_texts}
 use Rattle.rl_script.proofs.line.texts_in.Goals as goal
 
 pub returns-in-Array : goal.returns-in-Array

@@ -2,7 +2,7 @@ use Rattle.std.proofs.Common.{◌≡◌, length}
 use Rattle.std.specs.Str.Iter.{split_steps}
 use Rattle.std.specs.Str.Pattern.{FindsChar}
 use Rattle.rl_script_spec.specs.Script.{capped, lines_of}
-use Rattle.rl_script.proofs.Lines.{IsLeft}
+use Rattle.rl_script.proofs.LinesLemmas.{IsLeft}
 use Rattle.rl_script.proofs.script.read_script.Given as goal
 
 abbrev pub invariant-loop-line : goal.invariant-loop-line

@@ -1,7 +1,8 @@
 use Rattle.std.proofs.Common.{lit<}
 use Rattle.std.proofs.lemmas.Str.Pattern.{strip_suffix_char}
-use Rattle.rl_script.proofs.Texts.{trimmed_from}
+use Rattle.rl_script.proofs.TextsLemmas.{trimmed_from}
 use Rattle.rl_script.proofs.script.trimmed.Goals as goal
 
 pub returns : goal.returns
-returns c = rw c.unwrap_or.ensures (trimmed_from c.args.line c.strip_suffix.result (strip_suffix_char 13 c.args.line.now c.strip_suffix.result c.strip_suffix.ensures.cases (lit< tt)))
+returns c = rw c.unwrap_or.ensures (trimmed_from c.args.line c.strip_suffix.result
+    (strip_suffix_char 13 c.args.line.now c.strip_suffix.result c.strip_suffix.ensures.cases (lit< tt)))

@@ -1,8 +1,10 @@
-use Rattle.std.proofs.Common.{◌∙◌, ap, sym, Some, ℕ, length}
+use Rattle.std.proofs.Common.{◌∙◌, ap, sym, ℕ, length}
 use Rattle.std.specs.Prelude.{slice_set}
 use Rattle.std.proofs.lemmas.Result.{on_ok_weaker}
-use Rattle.rl_drive.specs.Seen.{counting_row}
-use Rattle.rl_drive.proofs.Parts.{give_passed, give_used}
+use Rattle.rl_view_spec.specs.Progress.{Progress}
+use Rattle.rl_registry.specs.Rows.{with_version}
+use Rattle.rl_view.specs.Seen.{counting_row}
+use Rattle.rl_drive.proofs.PartsLemmas.{give_passed, give_used}
 use Rattle.rl_drive.proofs.player.Player.give.Goals as goal
 
 pub returns-in_default : goal.returns-in_default
@@ -15,7 +17,8 @@ pub returns : goal.returns
 returns c = on_ok_weaker c.write_line-2.result
     (λ text. give_used c.args.key.now c.args.script.now c.in-Some.row c.args.self.now _ c.args.out.now.items c.write_line-2.new.out.items
     (ap (counting_row c.args.self.now.table) (sym c.as_bytes.ensures.value) ∙ sym c.counting_row.ensures ∙ c.in-Some.is)
-    c.outcome.ensures
-    (ap (λ (len : ℕ). slice_set c.args.self.now.contents.items c.in-Some.row (record { version = Some c.args.key.now.version; script_len = len })) (ap length c.as_bytes-2.ensures))
+    (c.registry_mut.ensures.value
+    ∙ ap (λ (t : Progress). record t { registered = with_version t.registered c.in-Some.row c.args.key.now.version }) c.outcome.ensures)
+    (ap (λ (len : ℕ). slice_set c.args.self.now.lengths.items c.in-Some.row len) (ap length c.as_bytes-2.ensures))
     text)
     c.write_line-2.ensures

@@ -1,34 +1,36 @@
-use Rattle.std.proofs.Common.{◌∙◌, ◌++◌, ap, append-nil, false, true, Bool, [], Ok, subst}
+use Rattle.std.proofs.Common.{◌≡◌, ◌-◌, ◌∙◌, ◌++◌, ℕ, [], List, Some, ap, subst, length, append-nil, arith}
 use Rattle.std.specs.Prelude.{codes, decimal}
 use Rattle.std.proofs.lemmas.Result.{on_ok_weaker}
-use Rattle.rl_view_spec.specs.Closure.{Text}
+use Rattle.rl_view_spec.specs.Closure.{Cycle, Text, Unknown, refusal_of}
 use Rattle.rl_script_spec.specs.Output.{line}
-use Rattle.rl_drive.specs.Player.{RequestsOne}
-use Rattle.rl_drive.proofs.Joining.{line_more, piece_more}
-use Rattle.rl_drive.proofs.Taking.{load_begin, load_next, loaded}
+use Rattle.rl_drive.proofs.JoiningLemmas.{line_more, piece_more}
+use Rattle.rl_drive.proofs.TakingLemmas.{loaded, none_refused}
 use Rattle.rl_drive.proofs.player.Player.load.Goals as goal
-use Rattle.rl_drive.proofs.player.Player.load.Goals.{then-not-branch, else-not-branch}
 
-pub loop-name-init : goal.loop-name-init
-loop-name-init c = load_begin c.args.names.now c.args.self.now
+pub unreachable-requires : goal.unreachable-requires
+unreachable-requires c =
+    let e = rw c.in-Err-Unknown.field-0-is at c.in-Err-Unknown.ensures in
+    none_refused c.args.self.now.table.registered c.args.names.now (Unknown c.in-Err-Unknown.field-0-0)
+    (subst (λ (names : List Text). refusal_of c.args.self.now.table.registered names ≡ Some (Unknown c.in-Err-Unknown.field-0-0))
+    (c.as_slice.ensures.value ∙ c.in_ok-accepted.ensures) e.0)
 
-pub loop-name-preserved : goal.loop-name-preserved
-loop-name-preserved c = elim c.if-not-branch.branch [
-  | then-not-branch w ↦
-      load_next c.args.names.now c.loop-name.name-index c.name-item.result c.args.self.now c.loop-name.self c.request.new.self c.loop-name.dropped c.if-not-branch.dropped false
-      c.loop-name-test.true c.name-item.is c.loop-name.invariant
-      (subst (λ (b : Bool). RequestsOne (Ok b) c.name-item.result c.loop-name.self c.request.new.self) w.if-not-branch.true c.in_ok-request.ensures) w.dropped-is
-  | else-not-branch w ↦
-      load_next c.args.names.now c.loop-name.name-index c.name-item.result c.args.self.now c.loop-name.self c.request.new.self c.loop-name.dropped c.if-not-branch.dropped true
-      c.loop-name-test.true c.name-item.is c.loop-name.invariant
-      (subst (λ (b : Bool). RequestsOne (Ok b) c.name-item.result c.loop-name.self c.request.new.self) w.if-not-branch.false c.in_ok-request.ensures) w.dropped-is
-]
+pub unreachable-requires-in-Err-Cycle : goal.unreachable-requires-in-Err-Cycle
+unreachable-requires-in-Err-Cycle c =
+    let e = rw c.in-Err-Cycle.field-0-is at c.in-Err-Cycle.ensures in
+    none_refused c.args.self.now.table.registered c.args.names.now (Cycle c.in-Err-Cycle.field-0-0)
+    (subst (λ (names : List Text). refusal_of c.args.self.now.table.registered names ≡ Some (Cycle c.in-Err-Cycle.field-0-0))
+    (c.as_slice.ensures.value ∙ c.in_ok-accepted.ensures) e.0)
 
 pub returns : goal.returns
-returns c = on_ok_weaker c.write_line.result
-    (λ text.
-    loaded c.args.names.now c.loop-name.name-index c.args.self.now c.loop-name.self c.loop-name.dropped c.args.out.now.items c.write_line.new.out.items c.loop-name.invariant c.loop-name-test.false
-    (line_more c.args.out.now.items c.write_number.new.out.items c.write_line.new.out.items (codes "load dropped " ++ decimal c.loop-name.dropped) []
-    (piece_more c.args.out.now.items c.write.new.out.items c.write_number.new.out.items (codes "load dropped ") (decimal c.loop-name.dropped) c.in_ok-write.ensures c.in_ok-write_number.ensures) text
-    ∙ ap (λ (xs : Text). c.args.out.now.items ++ line xs) (append-nil (codes "load dropped " ++ decimal c.loop-name.dropped))))
+returns c =
+    let number : c.saturating_sub.result ≡ length c.args.names.now - length c.as_slice.result.now =
+    omega (arith, c.saturating_sub.ensures, c.len.ensures, c.as_slice.ensures.len) in
+    on_ok_weaker c.write_line.result
+    (λ text. loaded c.args.names.now c.as_slice.result.now c.args.self.now c.request.new.self c.args.out.now.items c.write_line.new.out.items
+    (c.as_slice.ensures.value ∙ c.in_ok-accepted.ensures) c.in-Ok.ensures
+    (line_more c.args.out.now.items c.write_number.new.out.items c.write_line.new.out.items (codes "load dropped " ++ decimal c.saturating_sub.result) []
+    (piece_more c.args.out.now.items c.write.new.out.items c.write_number.new.out.items (codes "load dropped ") (decimal c.saturating_sub.result)
+    c.in_ok-write.ensures c.in_ok-write_number.ensures) text
+    ∙ ap (λ (xs : Text). c.args.out.now.items ++ line xs) (append-nil (codes "load dropped " ++ decimal c.saturating_sub.result))
+    ∙ ap (λ (n : ℕ). c.args.out.now.items ++ line (codes "load dropped " ++ decimal n)) number))
     c.write_line.ensures

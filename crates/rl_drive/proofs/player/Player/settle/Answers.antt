@@ -2,8 +2,8 @@ use Rattle.std.proofs.Common.{◌∙◌, ap, sym, refl}
 use Rattle.std.proofs.lemmas.Result.{on_ok_weaker}
 use Rattle.rl_view_spec.specs.declared.Outcome.{Outcome}
 use Rattle.rl_states.specs.Changes.{after_outcome}
-use Rattle.rl_drive.specs.Seen.{counting_row}
-use Rattle.rl_drive.proofs.Parts.{settle_passed, settle_used}
+use Rattle.rl_view.specs.Seen.{counting_row}
+use Rattle.rl_drive.proofs.PartsLemmas.{settle_passed, settle_used}
 use Rattle.rl_drive.proofs.player.Player.settle.Goals as goal
 
 pub returns-in_default : goal.returns-in_default

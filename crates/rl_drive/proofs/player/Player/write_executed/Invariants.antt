@@ -7,4 +7,5 @@ use Rattle.rl_drive.proofs.player.Player.write_executed.Given as goal
 
 abbrev pub invariant-loop-row : goal.invariant-loop-row
 invariant-loop-row l =
-    l.out.items ≡ l.fn.out.items ++ flat_map (λ row. if has_run l.self.table row then line (codes "executed " ++ run_at l.self.table l.self.contents.items row) else []) (take l.row (row_numbers l.self.table.registered))
+    l.out.items ≡ l.fn.out.items ++ flat_map (λ row. if has_run l.self.table row then
+    line (codes "executed " ++ run_at l.self.table l.self.lengths.items row) else []) (take l.row (row_numbers l.self.table.registered))

@@ -6,4 +6,5 @@ use Rattle.rl_drive.proofs.player.Player.write_states.Given as goal
 
 abbrev pub invariant-loop-row : goal.invariant-loop-row
 invariant-loop-row l =
-    l.out.items ≡ l.fn.out.items ++ flat_map (λ row. if is_touched_at l.self.table row then state_at l.self.table l.self.contents.items row else []) (take l.row (row_numbers l.self.table.registered))
+    l.out.items ≡ l.fn.out.items ++ flat_map (λ row. if is_touched_at l.self.table row then state_at l.self.table row else [])
+    (take l.row (row_numbers l.self.table.registered))

@@ -1,0 +1,49 @@
+//! Calls of a table whose steps nobody counts.
+ghost use Rattle.std.specs.Prelude.{◌≡◌, ◌<◌, None, false, length, All, IsTrue, IsFalse, MatchOption};
+ghost use Rattle.rl_view_spec.specs.Progress.{is_touched_at, is_skipped_at, outcome_at, next_row};
+ghost use Rattle.rl_states.specs.Changes.{after_touch, after_outcome, after_ran};
+
+use rl_states::{Outcome, Steps, Table};
+use std::sync::ledger::{Blank, Ledger};
+
+/// Notes in a table that rows were requested.
+pub fn touch<L: Ledger>(table: &mut Table, rows: &[u32], blank: Blank)
+    requires name { blank.name ≡ L.name }
+    requires parts { blank.parts ≡ L.parts }
+    requires some { 0 < L.parts }
+    requires within { All (λ row. row < length table.old.registered.rows) rows.now }
+    ensures { table.new ≡ after_touch rows.now table.old }
+{
+    let mut steps = Steps::<L>::open(blank);
+    table.touch(rows, &mut steps);
+}
+
+/// Notes in a table what a row was answered with.
+pub fn outcome<L: Ledger>(table: &mut Table, row: u32, outcome: Outcome, blank: Blank)
+    requires name { blank.name ≡ L.name }
+    requires parts { blank.parts ≡ L.parts }
+    requires some { 0 < L.parts }
+    requires touched { IsTrue (is_touched_at table.old row) }
+    requires kept { IsFalse (is_skipped_at table.old.registered row) }
+    requires first { outcome_at table.old row ≡ None }
+    requires idle { table.old.executing ≡ None }
+    ensures { table.new ≡ after_outcome row outcome table.old }
+{
+    let mut steps = Steps::<L>::open(blank);
+    table.outcome(row, outcome, &mut steps);
+}
+
+/// Runs the row of least number that may run, if there is one.
+pub fn run_next<L: Ledger>(table: &mut Table, blank: Blank) -> Option<u32>
+    requires name { blank.name ≡ L.name }
+    requires parts { blank.parts ≡ L.parts }
+    requires some { 0 < L.parts }
+    requires idle { table.old.executing ≡ None }
+    ensures row { result ≡ next_row table.old }
+    ensures after { MatchOption result (table.new ≡ table.old) (λ row. table.new ≡ after_ran row false table.old) }
+{
+    let mut steps = Steps::<L>::open(blank);
+    let row = table.next_run(&mut steps)?;
+    table.ran(row, false, &mut steps);
+    Some(row)
+}
