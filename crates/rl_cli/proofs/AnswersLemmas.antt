@@ -1,157 +1,342 @@
--- What follows of the status and what was written.
-use Rattle.std.proofs.Common.{◌≡◌, ℕ, ◌+◌, ◌<◌, ◌≤◌, ◌⊎◌, inl, inr, List, Bool, true, false, length, Option, Some, None, refl, ap, sym, subst, ◌∙◌, arith}
-use Rattle.std.specs.Prelude.{◌↔◌, IsSome, IfSome, IsSomeAnd, if◌then◌else◌}
-use Rattle.std.specs.Option.{option_map_or}
+-- What follows of how a call ends and what it wrote.
+use Rattle.std.proofs.Common.{◌≡◌, ◌≢◌, ℕ, ◌+◌, ◌<◌, ◌⊎◌, inl, inr, List, [], ◌∷◌, ◌++◌, Bool, true, false, length}
+use Rattle.std.proofs.Common.{Option, Some, None, refl, ap, sym, subst, ◌∙◌, arith}
+use Rattle.std.specs.Prelude.{IsSomeAnd, if◌then◌else◌, nat_lt, unwrap_or, Ok, Err}
+use Rattle.std.specs.Option.{option_map_or, option_or}
 use Rattle.std.specs.FinMap as map
 use Rattle.std.proofs.lemmas.Bool.{lt-ltb, le-ltb}
 use Rattle.rl_base.specs.Causes.{Rose, IsQuiet}
 use Rattle.rl_base.specs.Files.{Files}
+use Rattle.rl_base.specs.Written.{appended}
 use Rattle.rl_names.specs.declared.counted.Counted.TheVariants as counted
+use Rattle.rl_names.specs.declared.counted.TheConstants as limits
 use Rattle.rl_view_spec.specs.Closure.{Text}
-use Rattle.rl_script_spec.specs.Script.{Verdict, Prints}
-use Rattle.rl_script_spec.specs.Laws.{IsSound}
-use Rattle.rl_script_spec.proofs.Printed.{printed_holds}
-use Rattle.rl_cli.specs.Answers.{Answers, AnswersVerdict, IsUnreadStatus, IsLongStatus, IsLongFile, IsSilent, IsPrinted, IsUnreadFile, HoldsOfScript, Completes, verdict_on, status_of_verdict, status_of_file, expected_status}
+use Rattle.rl_script_spec.specs.Script as script
+use Rattle.rl_script_spec.proofs.PrintedLemmas.{printed_holds, printed_text}
 use Rattle.rl_drive.specs.Drives.{never}
-use Rattle.rl_cli.specs.Files.{max_file, IsUnread}
-use Rattle.rl_cli.specs.Words.{Command, Drive, Load, command_of, file_of}
+use Rattle.rl_cli.specs.Answers.{Answers, AnswersCommand, AnswersVerdict, IsLongFile, IsPrinted, IsUnreadFile, HoldsOfScript, PrintsSoundly, Writes, Completes}
+use Rattle.rl_cli.specs.Answers.{file_end, first_end, bytes_at, command_end, expected_end}
+use Rattle.rl_cli.specs.Ending.{Ending, plain, about, long, of_fault, of_verdict, written}
+use Rattle.rl_cli.specs.Files.{AreFiles, IsFile, IsTooLong, IsUnread, Reaches}
+use Rattle.rl_cli.specs.Verdict.{Verdict, Fault, Breaks, Exceeds, file_at, of_script, verdict_on}
+use Rattle.rl_cli.specs.Words.{Command, Drive, command_of, files_of, word_at, names_at}
 use Rattle.rl_cli.specs.declared.status.Status.{Status}
 use Rattle.rl_cli.specs.declared.status.Status.TheVariants as statuses
-use Rattle.rl_cli.proofs.VerdictLemmas.{not_file_bytes}
+use Rattle.rl_cli.specs.declared.work.Printed.{Printed}
+use Rattle.rl_cli.proofs.VerdictLemmas.{IsOfWork, is_of_work}
 
--- ---- the words
+same_status : (one other : Ending) → one ≡ other → one.status ≡ other.status
+same_status one other e = ap (λ (end : Ending). end.status) e
 
-bad_words_only : (told : Option Files) (words : List Text) (s : Status) (old new : Option Text) → Answers told words s old new → s ≡ statuses.BadWords → command_of words ≡ None
-bad_words_only told words statuses.BadWords old new a e = elim a [ inl unread ↦ unread.0 | inr others ↦ elim others [ inl long ↦ absurd long.0 | inr done ↦ absurd done.3 ] ]
-bad_words_only told words other old new a e = cc
+-- ---- the verdict
 
-has_command : (words : List Text) (command : Command) → command_of words ≡ Some command → command_of words ≡ None → ⊥
-has_command words command e n = cc
+-- the statuses that work has
+abbrev IsWorked : Status → Type 0
+IsWorked statuses.BadWords = ⊥
+IsWorked statuses.ReadFault = ⊥
+IsWorked (statuses.TooLarge what count) = what ≢ counted.FileBytes
+IsWorked other = Unit {0}
 
-is_command : (o : Option Command) → IsSome o → o ≡ None → ⊥
-is_command None h e = cc
-is_command (Some command) h e = cc
+written_worked : (ready : Bool) → IsWorked (written ready).status
+written_worked true = tt
+written_worked false = tt
 
-unread_words : (words : List Text) (s : Status) → IsUnreadStatus words s → command_of words ≡ None → s ≡ statuses.BadWords
-unread_words words statuses.BadWords h n = refl
-unread_words words statuses.ReadFault h n = absurd (is_command (command_of words) h n)
-unread_words words statuses.NoMemory h n = absurd (is_command (command_of words) h n)
-unread_words words other h n = absurd h
+fault_worked : (fault : Fault) → IsOfWork (Err fault) → IsWorked (of_fault fault).status
+fault_worked (Breaks word line why breach) h = tt
+fault_worked (Exceeds word what count) h = h
 
-long_words : (told : Option Files) (words : List Text) (s : Status) → IsLongStatus told words s → command_of words ≡ None → s ≡ statuses.BadWords
-long_words told words (statuses.TooLarge what count) h n = absurd (has_command words h.1.0 h.1.1 n)
-long_words told words other h n = absurd h
+along : (P : Status → Type 0) (one other : Ending) → one ≡ other → P other.status → P one.status
+along P one other e h = subst (λ (end : Ending). P end.status) (sym e) h
 
-bad_words_where : (told : Option Files) (words : List Text) (s : Status) (old new : Option Text) → Answers told words s old new → command_of words ≡ None → s ≡ statuses.BadWords
-bad_words_where told words s old new a n =
-    elim a [ inl unread ↦ unread_words words s unread.0 n | inr others ↦ elim others [ inl long ↦ long_words told words s long.0 n | inr done ↦ absurd (has_command words done.0 done.2.0 n) ] ]
-
-pub bad_words : (told : Option Files) (words : List Text) (s : Status) (old new : Option Text) → Answers told words s old new → (s ≡ statuses.BadWords) ↔ (command_of words ≡ None)
-bad_words told words s old new a = (bad_words_only told words s old new a, bad_words_where told words s old new a)
+verdict_worked : (v : Verdict) (end : Ending) (old new : Option Text) → IsOfWork v → AnswersVerdict v end old new → IsWorked end.status
+verdict_worked (Ok printed) end old new h a = elim a [
+  | inl whole ↦ along IsWorked end (written printed.ready) whole.0 (written_worked printed.ready)
+  | inr
+      front ↦ elim front.0 [
+        | inl fault ↦ along IsWorked end (plain statuses.WriteFault) fault tt
+        | inr memory ↦ along IsWorked end (plain statuses.NoMemory)
+            memory tt
+      ]
+]
+verdict_worked (Err fault) end old new h a = elim a.0 [
+  | inl told ↦ along IsWorked end (of_fault fault) told (fault_worked fault h)
+  | inr memory ↦ along
+      IsWorked end (plain statuses.NoMemory) memory tt
+]
 
 -- ---- a file that is too long
 
-pub too_large : (told : Option Files) (words : List Text) (s : Status) (old new : Option Text) → Answers told words s old new → (count : ℕ) → s ≡ statuses.TooLarge counted.FileBytes count → IsLongFile told words count
-too_large told words (statuses.TooLarge what count') old new a count e =
-    elim a [ inl unread ↦ absurd unread.0 | inr others ↦ elim others [ inl long ↦ subst (IsLongFile told words) same long.0.1 | inr done ↦ absurd (not_file_bytes done.0 done.1 what count' done.3.0 (cc)) ] ]
+abbrev IsNotFile : Status → Type 0
+IsNotFile (statuses.TooLarge what count) = what ≢ counted.FileBytes
+IsNotFile other = Unit {0}
+
+worked_not_file : (s : Status) → IsWorked s → IsNotFile s
+worked_not_file (statuses.TooLarge what count) h = h
+worked_not_file other h = tt
+
+not_file : (s : Status) (count : ℕ) → IsNotFile s → s ≡ statuses.TooLarge counted.FileBytes count → ⊥
+not_file s count h e = subst IsNotFile e h refl
+
+pub too_large : (told : Option Files) (words : List Text) (end : Ending) (old new : Option Text) → Answers told words end old new → (count : ℕ) →
+    end.status ≡ statuses.TooLarge counted.FileBytes count → IsLongFile told words end.word count
+too_large told words end old new a count e =
+    elim a [
+      | inl bad ↦ absurd (not_file end.status count (along IsNotFile end (plain statuses.BadWords) bad.1 tt) e)
+      | inr good ↦ of_command good.0 good.1
+          good.2
+    ]
   where
-    same : count' ≡ count
-    same = cc
-too_large told words other old new a count e = cc
+    same_word : (word : ℕ) → end ≡ long word → end.word ≡ word
+    same_word word h = ap (λ (x : Ending). x.word) h
 
--- ---- nothing written
+    same_count : (word : ℕ) → end ≡ long word → count ≡ limits.MAX_FILE_BYTES + 1
+    same_count word h = let s : statuses.TooLarge counted.FileBytes count ≡ statuses.TooLarge counted.FileBytes (limits.MAX_FILE_BYTES + 1) = sym e
+        ∙ same_status end (long word) h in cc
 
-silent_verdict : (v : Verdict) (s : Status) (old new : Option Text) → AnswersVerdict v s old new → IsSilent s → new ≡ old
-silent_verdict v statuses.Done old new a h = absurd h
-silent_verdict v statuses.NotReady old new a h = absurd h
-silent_verdict v statuses.WriteFault old new a h = absurd h
-silent_verdict v statuses.NoMemory old new a h = absurd h
-silent_verdict v (statuses.BadInput word line why) old new a h = a.2
-silent_verdict v (statuses.TooLarge what count) old new a h = a.1
-silent_verdict v statuses.ReadFault old new a h = absurd a
-silent_verdict v statuses.BadWords old new a h = absurd a
-
-pub unwritten : (told : Option Files) (words : List Text) (s : Status) (old new : Option Text) → Answers told words s old new → IsSilent s → new ≡ old
-unwritten told words s old new a h =
-    elim a [ inl unread ↦ unread.1 | inr others ↦ elim others [ inl long ↦ long.1 | inr done ↦ silent_verdict (verdict_on done.0 done.1) s old new done.3 h ] ]
+    of_command : (command : Command) → command_of words ≡ Some command → AnswersCommand told words command end old new →
+        IsLongFile told words end.word count
+    of_command command is b =
+        elim b [
+          | inl memory ↦ absurd (not_file end.status count (along IsNotFile end (plain statuses.NoMemory) memory.0 tt) e)
+          | inr others ↦
+              elim others [
+                | inl unread ↦ absurd (not_file end.status count (along IsNotFile end (about unread.0 statuses.ReadFault) unread.1 tt) e)
+                | inr rest
+                    ↦ elim rest [
+                      | inl far ↦ subst (λ (word : ℕ). IsLongFile told words word count) (sym (same_word far.0 far.3))
+                          (command, is, far.1, far.2, same_count far.0 far.3)
+                      | inr done ↦ absurd
+                          (not_file end.status count (worked_not_file end.status
+                          (verdict_worked (verdict_on command done.0) end old new (is_of_work command done.0) done.2))
+                          e)
+                    ]
+              ]
+        ]
 
 -- ---- the headline
 
+back : (P : Status → Type 0) (one other : Ending) → one ≡ other → P one.status → P other.status
+back P one other e h = subst (λ (end : Ending). P end.status) e h
+
 -- an output that is written is the one of the verdict
-printed_verdict : (v : Verdict) (s : Status) (old new : Option Text) → AnswersVerdict v s old new → IsPrinted s → (text : Text) × (ready : Bool) × (v ≡ Prints text ready)
-printed_verdict v statuses.Done old new a h = (a.0, true, a.1)
-printed_verdict v statuses.NotReady old new a h = (a.0, false, a.1)
-printed_verdict v statuses.WriteFault old new a h = (a.0, a.1, a.2)
-printed_verdict v other old new a h = absurd h
+record IsWritten (v : Verdict) (s : Status) (old new : Option Text) : Type 0 where
+  printed : Printed
+  is : v ≡ Ok printed
+  writes : Writes s printed.text old new
 
-unread_silent : (words : List Text) (s : Status) → IsUnreadStatus words s → IsPrinted s → ⊥
-unread_silent words statuses.Done u h = u
-unread_silent words statuses.NotReady u h = u
-unread_silent words statuses.WriteFault u h = u
-unread_silent words other u h = h
-
-long_silent : (told : Option Files) (words : List Text) (s : Status) → IsLongStatus told words s → IsPrinted s → ⊥
-long_silent told words (statuses.TooLarge what count) l h = h
-long_silent told words other l h = l
-
-pub headline : (told : Option Files) (words : List Text) (s : Status) (old new : Option Text) → Answers told words s old new → HoldsOfScript told words s
-headline None words s old new a = tt
-headline (Some files) words s old new a = λ script e h. elim a [ inl unread ↦ absurd (unread_silent words s unread.0 h) | inr others ↦ elim others [ inl long ↦ absurd (long_silent (Some files) words s long.0 h) | inr done ↦ of_verdict script done.0 done.1 (cc) done.2.1.1 (printed_verdict (verdict_on done.0 done.1) s old new done.3 h) ] ]
+printed_writes : (printed : Printed) (end : Ending) (old new : Option Text) → AnswersVerdict (Ok printed) end old new → IsPrinted end.status →
+    Writes end.status printed.text old new
+printed_writes printed end old new a h = elim a [
+  | inl whole ↦ along (λ s. Writes s printed.text old new) end (written printed.ready) whole.0
+      (ready_writes printed.ready whole.1)
+  | inr front ↦ elim front.0 [
+    | inl fault ↦ along (λ s. Writes s printed.text old new) end (plain statuses.WriteFault) fault front.1
+    | inr memory ↦ absurd
+        (back IsPrinted end (plain statuses.NoMemory) memory h)
+  ]
+]
   where
-    of_verdict : (script : Text) (command : Command) (bytes : Text) → command ≡ Drive script → map.get files (file_of command) ≡ Some bytes → ((text : Text) × (ready : Bool) × (verdict_on command bytes ≡ Prints text ready)) → IfSome (map.get files script) (IsSound never)
-    of_verdict script (Load definitions query) bytes e f p = cc
-    of_verdict script (Drive other) bytes e f p =
-        let same : other ≡ script = cc in
-        let found : map.get files script ≡ Some bytes = ap (map.get files) (sym same) ∙ f in
-        subst (λ (o : Option Text). IfSome o (IsSound never)) (sym found) (printed_holds never bytes p.0 p.1 p.2)
+    ready_writes : (ready : Bool) → new ≡ appended old printed.text → Writes (written ready).status printed.text old new
+    ready_writes true e = e
+    ready_writes false e = e
+
+fault_unprinted : (fault : Fault) → IsPrinted (of_fault fault).status → ⊥
+fault_unprinted (Breaks word line why breach) h = h
+fault_unprinted (Exceeds word what count) h = h
+
+written_verdict : (v : Verdict) (end : Ending) (old new : Option Text) → AnswersVerdict v end old new → IsPrinted end.status →
+    IsWritten v end.status old new
+written_verdict (Ok printed) end old new a h = record { printed = printed; is = refl; writes = printed_writes printed end old new a h }
+written_verdict (Err fault) end old new a h = elim a.0 [
+  | inl told ↦ absurd (fault_unprinted fault (back IsPrinted end (of_fault fault) told h))
+  | inr memory
+      ↦ absurd (back IsPrinted end (plain statuses.NoMemory) memory h)
+]
+
+-- the output of a script
+script_prints : (place : ℕ) (v : script.Verdict) (printed : Printed) → of_script place v ≡ Ok printed → v ≡ script.Prints printed.text printed.ready
+script_prints place (script.Prints text ready) printed e = let p : record { text = text; ready = ready }
+    ≡ printed = cc in ap (λ (q : Printed). script.Prints q.text q.ready) p
+script_prints place (script.BadLine line why) printed e = cc
+script_prints place (script.TooMany what count) printed e = cc
+
+one_file : (told : Option Files) (name : Text) (files : List Text) → AreFiles told (name ∷ []) files → IsFile told name (file_at files 0)
+one_file told name (bytes ∷ []) are = are.0
+one_file told name [] are = absurd are
+one_file told name (bytes ∷ more ∷ rest) are = absurd are.1
+
+script_written : (told : Option Files) (words : List Text) (files : List Text) (s : Status) (old new : Option Text) →
+    AreFiles told (word_at words 1 ∷ []) files → IsWritten (verdict_on Drive files) s old new → PrintsSoundly told words s old new
+script_written told words files s old new are w =
+    let bytes = file_at files 0 in
+    let prints = script_prints 1 (script.verdict_of never bytes) w.printed w.is in
+    record {
+      bytes = bytes;
+      file = one_file told (word_at words 1) files are;
+      writes = subst (λ (text : Text). Writes s text old new) (sym (printed_text never bytes w.printed.text w.printed.ready prints)) w.writes;
+      sound = printed_holds never bytes w.printed.text w.printed.ready prints;
+    }
+
+command_written : (told : Option Files) (words : List Text) (end : Ending) (old new : Option Text) → AnswersCommand told words Drive end old new →
+    IsPrinted end.status → PrintsSoundly told words end.status old new
+command_written told words end old new a h = elim a [
+  | inl memory ↦ absurd (back IsPrinted end (plain statuses.NoMemory) memory.0 h)
+  | inr others ↦
+      elim others [
+        | inl unread ↦ absurd (back IsPrinted end (about unread.0 statuses.ReadFault) unread.1 h)
+        | inr rest ↦
+            elim rest [
+              | inl far ↦ absurd (back IsPrinted end (long far.0) far.3 h)
+              | inr done ↦ script_written told words done.0 end.status old new done.1
+                  (written_verdict (verdict_on Drive done.0) end old new done.2 h)
+            ]
+      ]
+]
+
+pub headline : (told : Option Files) (words : List Text) (end : Ending) (old new : Option Text) → Answers told words end old new →
+    HoldsOfScript told words end.status old new
+headline told words end old new a = λ e h. elim a [
+  | inl bad ↦ absurd (no_command bad.0 e)
+  | inr good ↦ command_written told words end old new
+      (subst (λ (command : Command). AnswersCommand told words command end old new) (same good.0 good.1 e) good.2) h
+]
+  where
+    no_command : command_of words ≡ None → command_of words ≡ Some Drive → ⊥
+    no_command n e = cc
+
+    same : (command : Command) → command_of words ≡ Some command → command_of words ≡ Some Drive → command ≡ Drive
+    same command e d = cc
 
 -- ---- completeness
 
 rose_quiet : (before now : ℕ) → Rose before now → IsQuiet before now → ⊥
 rose_quiet before now rose quiet = absurd (omega arith)
 
-expected_of : (files : Files) (words : List Text) (command : Command) → command_of words ≡ Some command → expected_status files words ≡ status_of_file command (map.get files (file_of command))
-expected_of files words command e = ap (λ (o : Option Command). option_map_or (λ c. status_of_file c (map.get files (file_of c))) o statuses.BadWords) e
+-- files that are read end no call
+read_on : (files : Files) (words : List Text) (place : ℕ) (bytes : Text) → IsFile (Some files) (word_at words place) bytes →
+    file_end files words place ≡ None
+read_on files words place bytes file =
+    ap (λ (o : Option Text). option_map_or (λ b. if nat_lt limits.MAX_FILE_BYTES (length b) then Some (long place) else None) o
+    (Some (about place statuses.ReadFault))) file.1
+    ∙ ap (λ b. if b then Some (long place) else None) (le-ltb limits.MAX_FILE_BYTES (length bytes) file.0)
 
-verdict_status : (v : Verdict) (s : Status) (old new : Option Text) → AnswersVerdict v s old new → (s ≡ statuses.WriteFault → ⊥) → (s ≡ statuses.NoMemory) ⊎ (s ≡ status_of_verdict v)
-verdict_status v statuses.Done old new a w = inr (ap status_of_verdict (sym a.1))
-verdict_status v statuses.NotReady old new a w = inr (ap status_of_verdict (sym a.1))
-verdict_status v (statuses.BadInput word line why) old new a w = inr (ap (λ n. statuses.BadInput n line why) a.0 ∙ ap status_of_verdict (sym a.1))
-verdict_status v (statuses.TooLarge what count) old new a w = inr (ap status_of_verdict (sym a.0))
-verdict_status v statuses.WriteFault old new a w = absurd (w refl)
-verdict_status v statuses.NoMemory old new a w = inl refl
-verdict_status v statuses.ReadFault old new a w = absurd a
-verdict_status v statuses.BadWords old new a w = absurd a
+ends_at : (files : Files) (words : List Text) (before after : List ℕ) (place : ℕ) (read : List Text) (end : Ending) →
+    AreFiles (Some files) (names_at words before) read → file_end files words place ≡ Some end
+    → first_end files words (before ++ place ∷ after) ≡ Some end
+ends_at files words [] after place read end are e = ap (λ (o : Option Ending). option_or o (first_end files words after)) e
+ends_at files words (p ∷ before) after place [] end are e = absurd are
+ends_at files words (p ∷ before) after place (bytes ∷ read) end are e =
+    ap (λ (o : Option Ending). option_or o (first_end files words (before ++ place ∷ after))) (read_on files words p bytes are.0)
+    ∙ ends_at files words before after place read end are.1 e
 
-long_status : (command : Command) (o : Option Text) → IsSomeAnd o (λ bytes. max_file < length bytes) → status_of_file command o ≡ statuses.TooLarge counted.FileBytes (max_file + 1)
-long_status command None h = absurd h
-long_status command (Some bytes) h = ap (λ b. if b then statuses.TooLarge counted.FileBytes (max_file + 1) else status_of_verdict (verdict_on command bytes)) (lt-ltb max_file (length bytes) h)
+reached : (files : Files) (words : List Text) (places : List ℕ) (place : ℕ) (end : Ending) → Reaches (Some files) words places place →
+    file_end files words place ≡ Some end → first_end files words places ≡ Some end
+reached files words places place end r e = ap (first_end files words) r.order ∙ ends_at files words r.before r.after place r.read end r.are e
 
-short_status : (command : Command) (bytes : Text) → length bytes ≤ max_file → status_of_file command (Some bytes) ≡ status_of_verdict (verdict_on command bytes)
-short_status command bytes h = ap (λ b. if b then statuses.TooLarge counted.FileBytes (max_file + 1) else status_of_verdict (verdict_on command bytes)) (le-ltb max_file (length bytes) h)
+none_ends : (files : Files) (words : List Text) (places : List ℕ) (all : List Text) → AreFiles (Some files) (names_at words places) all →
+    first_end files words places ≡ None
+none_ends files words [] all are = refl
+none_ends files words (p ∷ places) [] are = absurd are
+none_ends files words (p ∷ places) (bytes ∷ all) are =
+    ap (λ (o : Option Ending). option_or o (first_end files words places)) (read_on files words p bytes are.0) ∙ none_ends files words places all are.1
 
-absent_status : (files : Files) (name : Text) (command : Command) (faults faults' : ℕ) (blamed : Option Text) → IsUnread faults faults' blamed (Some files) name → IsQuiet faults faults' → file_of command ≡ name → status_of_file command (map.get files (file_of command)) ≡ statuses.ReadFault
-absent_status files name command faults faults' blamed u q e = elim u [ inl counted ↦ absurd (rose_quiet faults faults' counted.0 q) | inr absent ↦ ap (status_of_file command) (ap (map.get files) e ∙ absent) ]
+are_bytes : (files : Files) (words : List Text) (places : List ℕ) (all : List Text) → AreFiles (Some files) (names_at words places) all →
+    bytes_at files words places ≡ all
+are_bytes files words [] [] are = refl
+are_bytes files words [] (bytes ∷ all) are = absurd are
+are_bytes files words (p ∷ places) [] are = absurd are
+are_bytes files words (p ∷ places) (bytes ∷ all) are =
+    ap (λ (b : Text). b ∷ bytes_at files words places) (ap (λ (o : Option Text). unwrap_or o []) are.0.1)
+    ∙ ap (λ (rest : List Text). bytes ∷ rest) (are_bytes files words places all are.1)
 
-unread_status : (files : Files) (words : List Text) (s : Status) (faults faults' : ℕ) (blamed : Option Text) → IsUnreadStatus words s → (s ≡ statuses.ReadFault → IsUnreadFile faults faults' blamed (Some files) words) → IsQuiet faults faults' → (s ≡ statuses.NoMemory) ⊎ (s ≡ expected_status files words)
-unread_status files words statuses.BadWords faults faults' blamed u r q = inr (sym (ap (λ (o : Option Command). option_map_or (λ c. status_of_file c (map.get files (file_of c))) o statuses.BadWords) u))
-unread_status files words statuses.ReadFault faults faults' blamed u r q =
-    let unread = r refl in
-    inr (sym (expected_of files words unread.0 unread.1 ∙ absent_status files (file_of unread.0) unread.0 faults faults' blamed unread.2 q refl))
-unread_status files words statuses.NoMemory faults faults' blamed u r q = inl refl
-unread_status files words other faults faults' blamed u r q = absurd u
+long_ends : (files : Files) (words : List Text) (place : ℕ) → IsTooLong (Some files) (word_at words place) →
+    file_end files words place ≡ Some (long place)
+long_ends files words place h = of (map.get files (word_at words place)) h
+  where
+    of : (o : Option Text) → IsSomeAnd o (λ bytes. limits.MAX_FILE_BYTES < length bytes) →
+        option_map_or (λ b. if nat_lt limits.MAX_FILE_BYTES (length b) then Some (long place) else None) o (Some (about place statuses.ReadFault))
+        ≡ Some (long place)
+    of None k = absurd k
+    of (Some bytes) k = ap (λ b. if b then Some (long place) else None) (lt-ltb limits.MAX_FILE_BYTES (length bytes) k)
 
-long_file_status : (files : Files) (words : List Text) (s : Status) → IsLongStatus (Some files) words s → s ≡ expected_status files words
-long_file_status files words (statuses.TooLarge what count) l =
-    let e : statuses.TooLarge what count ≡ statuses.TooLarge counted.FileBytes (max_file + 1) = cc in
-    e ∙ sym (expected_of files words l.1.0 l.1.1 ∙ long_status l.1.0 (map.get files (file_of l.1.0)) l.1.2)
-long_file_status files words other l = absurd l
+unread_ends : (files : Files) (words : List Text) (place : ℕ) (faults faults' : ℕ) (blamed : Option Text) →
+    IsUnread faults faults' blamed (Some files) (word_at words place) → IsQuiet faults faults' →
+    file_end files words place ≡ Some (about place statuses.ReadFault)
+unread_ends files words place faults faults' blamed u q = elim u [
+  | inl counted ↦ absurd (rose_quiet faults faults' counted.0 q)
+  | inr absent ↦ ap
+      (λ (o : Option Text). option_map_or (λ b. if nat_lt limits.MAX_FILE_BYTES (length b) then Some (long place) else None) o
+      (Some (about place statuses.ReadFault))) absent
+]
 
-read_status : (files : Files) (words : List Text) (command : Command) (bytes : Text) (s : Status) → command_of words ≡ Some command → length bytes ≤ max_file → map.get files (file_of command) ≡ Some bytes → ((s ≡ statuses.NoMemory) ⊎ (s ≡ status_of_verdict (verdict_on command bytes))) → (s ≡ statuses.NoMemory) ⊎ (s ≡ expected_status files words)
-read_status files words command bytes s e m f a =
-    let expected : expected_status files words ≡ status_of_verdict (verdict_on command bytes) = expected_of files words command e ∙ (ap (status_of_file command) f ∙ short_status command bytes m) in
-    elim a [ inl memory ↦ inl memory | inr same ↦ inr (same ∙ sym expected) ]
+expected_of : (files : Files) (words : List Text) (command : Command) → command_of words ≡ Some command →
+    expected_end files words ≡ command_end files words command
+expected_of files words command e = ap (λ (o : Option Command). option_map_or (command_end files words) o (plain statuses.BadWords)) e
 
-pub complete : (told : Option Files) (words : List Text) (s : Status) (old new : Option Text) (faults faults' out out' : ℕ) (blamed : Option Text) → Answers told words s old new → (s ≡ statuses.ReadFault → IsUnreadFile faults faults' blamed told words) → (s ≡ statuses.WriteFault → Rose out out') → Completes told words faults faults' out out' s
-complete None words s old new faults faults' out out' blamed a r w = tt
-complete (Some files) words s old new faults faults' out out' blamed a r w = λ q q'. elim a [ inl unread ↦ unread_status files words s faults faults' blamed unread.0 r q | inr others ↦ elim others [ inl long ↦ inr (long_file_status files words s long.0) | inr done ↦ read_status files words done.0 done.1 s done.2.0 done.2.1.0 done.2.1.1 (verdict_status (verdict_on done.0 done.1) s old new done.3 (λ e. rose_quiet out out' (w e) q')) ] ]
+ended_by_file : (files : Files) (words : List Text) (command : Command) (place : ℕ) (end : Ending) → command_of words ≡ Some command →
+    Reaches (Some files) words (files_of command) place → file_end files words place ≡ Some end → expected_end files words ≡ end
+ended_by_file files words command place end is r e =
+    expected_of files words command is
+    ∙ ap (λ (o : Option Ending). unwrap_or o (of_verdict (verdict_on command (bytes_at files words (files_of command)))))
+    (reached files words (files_of command) place end r e)
+
+ended_by_verdict : (files : Files) (words : List Text) (command : Command) (all : List Text) → command_of words ≡ Some command →
+    AreFiles (Some files) (names_at words (files_of command)) all → expected_end files words ≡ of_verdict (verdict_on command all)
+ended_by_verdict files words command all is are =
+    expected_of files words command is
+    ∙ (ap (λ (o : Option Ending). unwrap_or o (of_verdict (verdict_on command (bytes_at files words (files_of command)))))
+    (none_ends files words (files_of command) all are)
+    ∙ ap (λ (bytes : List Text). of_verdict (verdict_on command bytes)) (are_bytes files words (files_of command) all are))
+
+verdict_end : (v : Verdict) (end : Ending) (old new : Option Text) → AnswersVerdict v end old new → (end.status ≡ statuses.WriteFault → ⊥) →
+    (end ≡ plain statuses.NoMemory) ⊎ (end ≡ of_verdict v)
+verdict_end (Ok printed) end old new a w = elim a [
+  | inl whole ↦ inr whole.0
+  | inr front ↦
+      elim front.0 [ inl fault ↦ absurd (w (same_status end (plain statuses.WriteFault) fault)) | inr memory ↦ inl memory ]
+]
+verdict_end (Err fault) end old new a w = elim a.0 [ inl told ↦ inr told | inr memory ↦ inl memory ]
+
+unread_expected : (files : Files) (words : List Text) (end : Ending) (place faults faults' : ℕ) (blamed : Option Text) →
+    end ≡ about place statuses.ReadFault → IsUnreadFile faults faults' blamed (Some files) words end.word → IsQuiet faults faults' →
+    end ≡ expected_end files words
+unread_expected files words end place faults faults' blamed e u q =
+    let word : end.word ≡ place = ap (λ (x : Ending). x.word) e in
+    let ends : expected_end files words ≡ about end.word statuses.ReadFault =
+    ended_by_file files words u.0 end.word (about end.word statuses.ReadFault) u.1 u.2 (unread_ends files words end.word faults faults' blamed u.3 q) in
+    e ∙ (ap (λ (w : ℕ). about w statuses.ReadFault) (sym word) ∙ sym ends)
+
+pub complete : (told : Option Files) (words : List Text) (end : Ending) (old new : Option Text) (faults faults' out out' : ℕ) (blamed : Option Text) →
+    Answers told words end old new
+    → (end.status ≡ statuses.ReadFault → IsUnreadFile faults faults' blamed told words end.word) →
+    (end.status ≡ statuses.WriteFault → Rose out out') → Completes told words faults faults' out out' end
+complete None words end old new faults faults' out out' blamed a r w = tt
+complete (Some files) words end old new faults faults' out out' blamed a r w =
+    λ q q'. elim a [
+      | inl bad ↦ inr (bad.1 ∙ sym (ap (λ (o : Option Command). option_map_or (command_end files words) o (plain statuses.BadWords)) bad.0))
+      | inr good ↦ of_command q q' good.0 good.1 good.2
+    ]
+  where
+    of_command : IsQuiet faults faults' → IsQuiet out out' → (command : Command) → command_of words ≡ Some command →
+        AnswersCommand (Some files) words command end old new → (end ≡ plain statuses.NoMemory) ⊎ (end ≡ expected_end files words)
+    of_command q q' command is b =
+        elim b [
+          | inl memory ↦ inl memory.0
+          | inr others ↦
+              elim others [
+                | inl unread ↦ inr (unread_expected files words end unread.0 faults faults' blamed unread.1
+                    (r (same_status end (about unread.0 statuses.ReadFault) unread.1)) q)
+                | inr rest ↦
+                    elim rest [
+                      | inl far ↦ inr (far.3 ∙ sym (ended_by_file files words command far.0 (long far.0) is far.1 (long_ends files words far.0 far.2)))
+                      | inr done ↦ of_done command done.0 is done.1
+                          (verdict_end (verdict_on command done.0) end old new done.2 (λ e. rose_quiet out out' (w e) q'))
+                    ]
+              ]
+        ]
+      where
+        of_done : (command : Command) (all : List Text) → command_of words ≡ Some command →
+            AreFiles (Some files) (names_at words (files_of command)) all →
+            ((end ≡ plain statuses.NoMemory) ⊎ (end ≡ of_verdict (verdict_on command all))) →
+            (end ≡ plain statuses.NoMemory) ⊎ (end ≡ expected_end files words)
+        of_done command all is are v = elim v [ inl memory ↦ inl memory | inr same ↦ inr (same ∙ sym (ended_by_verdict files words command all is are)) ]

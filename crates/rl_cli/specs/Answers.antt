@@ -1,66 +1,55 @@
--- What a call answers and writes, by its words and the bytes of the file that they name.
-use Rattle.std.specs.Prelude.{◌≡◌, ℕ, ◌+◌, List, Bool, true, false, if◌then◌else◌, length, nat_lt, Option, Some, None, IsSome, IfSome, ◌⊎◌}
-use Rattle.std.specs.Option.{option_map_or}
+-- How a call ends and what it writes, by its words and the bytes of the files that they name.
+use Rattle.std.specs.Prelude.{◌≡◌, ℕ, ◌+◌, List, [], ◌∷◌, if◌then◌else◌, length, map, nat_lt, reverse, Option, Some, None, IfSome, Ok}
+use Rattle.std.specs.Prelude.{Err, unwrap_or, ◌⊎◌}
+use Rattle.std.specs.Option.{option_map_or, option_or}
 use Rattle.std.specs.FinMap as map
 use Rattle.rl_base.specs.Causes.{IsQuiet}
 use Rattle.rl_base.specs.Files.{Files}
 use Rattle.rl_base.specs.Written.{appended}
-use Rattle.rl_names.specs.declared.counted.Counted.TheVariants as counted
+use Rattle.rl_names.specs.declared.counted.TheConstants as limits
 use Rattle.rl_view_spec.specs.Closure.{Text}
-use Rattle.rl_script_spec.specs.Script.{Verdict, Prints, BadLine, TooMany, verdict_of}
+use Rattle.rl_script_spec.specs.Output.{output_of}
+use Rattle.rl_script_spec.specs.Script.{view_of, steps_of}
 use Rattle.rl_script_spec.specs.Laws.{IsSound}
 use Rattle.rl_drive.specs.Drives.{never}
-use Rattle.rl_cli.specs.Files.{max_file, IsFile, IsTooLong, IsUnread}
-use Rattle.rl_cli.specs.Loads.{load_verdict}
-use Rattle.rl_cli.specs.Words.{Command, Drive, Load, command_of, file_of}
+use Rattle.rl_cli.specs.Ending.{Ending, plain, about, long, of_fault, written, of_verdict}
+use Rattle.rl_cli.specs.Files.{IsFile, IsTooLong, IsUnread, AreFiles, Reaches}
+use Rattle.rl_cli.specs.Verdict.{Verdict, verdict_on}
+use Rattle.rl_cli.specs.Words.{Command, Drive, command_of, files_of, word_at, names_at}
 use Rattle.rl_cli.specs.Written.{AppendsFront}
 use Rattle.rl_cli.specs.declared.status.Status.{Status}
 use Rattle.rl_cli.specs.declared.status.Status.TheVariants as statuses
 
--- what a command makes of the bytes of its file
-abbrev pub verdict_on : Command → Text → Verdict
-verdict_on (Drive script) bytes = verdict_of never bytes
-verdict_on (Load definitions query) bytes = load_verdict query bytes
+-- ---- the ending and what was written
 
--- ---- the status and what was written
+-- By the verdict. Its output is written whole, or a fault of writing or want of memory leaves a front of it. Its fault is
+-- told, or memory ran out, and nothing is written.
+abbrev pub AnswersVerdict : Verdict → Ending → Option Text → Option Text → Type 0
+AnswersVerdict (Ok printed) end old new =
+    ((end ≡ written printed.ready) × (new ≡ appended old printed.text))
+    ⊎ (((end ≡ plain statuses.WriteFault) ⊎ (end ≡ plain statuses.NoMemory)) × AppendsFront old printed.text new)
+AnswersVerdict (Err fault) end old new = ((end ≡ of_fault fault) ⊎ (end ≡ plain statuses.NoMemory)) × (new ≡ old)
 
--- By the verdict on the file's bytes. A fault of writing leaves a front of the output, and so may want of memory.
-abbrev pub AnswersVerdict : Verdict → Status → Option Text → Option Text → Type 0
-AnswersVerdict verdict statuses.Done old new = (text : Text) × (verdict ≡ Prints text true) × (new ≡ appended old text)
-AnswersVerdict verdict statuses.NotReady old new = (text : Text) × (verdict ≡ Prints text false) × (new ≡ appended old text)
-AnswersVerdict verdict (statuses.BadInput word line why) old new = (word ≡ 1) × (verdict ≡ BadLine line why) × (new ≡ old)
-AnswersVerdict verdict (statuses.TooLarge what count) old new = (verdict ≡ TooMany what count) × (new ≡ old)
-AnswersVerdict verdict statuses.WriteFault old new = (text : Text) × (ready : Bool) × (verdict ≡ Prints text ready) × AppendsFront old text new
-AnswersVerdict verdict statuses.NoMemory old new =
-    ((text : Text) × (ready : Bool) × (verdict ≡ Prints text ready) × AppendsFront old text new) ⊎ (new ≡ old)
-AnswersVerdict verdict statuses.ReadFault old new = ⊥
-AnswersVerdict verdict statuses.BadWords old new = ⊥
+-- By a command. Memory ran out before its files were read, or a file was not read, or one is too long and those before it
+-- were read: then nothing is written. Or they were all read, and the verdict on their bytes says the rest.
+abbrev pub AnswersCommand : Option Files → List Text → Command → Ending → Option Text → Option Text → Type 0
+AnswersCommand told words command end old new =
+    ((end ≡ plain statuses.NoMemory) × (new ≡ old))
+    ⊎ ((word : ℕ) × (end ≡ about word statuses.ReadFault) × (new ≡ old))
+    ⊎ ((word : ℕ) × Reaches told words (files_of command) word × IsTooLong told (word_at words word) × (end ≡ long word) × (new ≡ old))
+    ⊎ ((files : List Text) × AreFiles told (names_at words (files_of command)) files × AnswersVerdict (verdict_on command files) end old new)
 
--- where no file was read: the words are no command's, or they are and reading failed
-abbrev pub IsUnreadStatus : List Text → Status → Type 0
-IsUnreadStatus words statuses.BadWords = command_of words ≡ None
-IsUnreadStatus words statuses.ReadFault = IsSome (command_of words)
-IsUnreadStatus words statuses.NoMemory = IsSome (command_of words)
-IsUnreadStatus words other = ⊥
+-- By the words. They are no command's, or those of one.
+abbrev pub Answers : Option Files → List Text → Ending → Option Text → Option Text → Type 0
+Answers told words end old new =
+    ((command_of words ≡ None) × (end ≡ plain statuses.BadWords) × (new ≡ old))
+    ⊎ ((command : Command) × (command_of words ≡ Some command) × AnswersCommand told words command end old new)
 
--- the words name a file that is too long, and one byte more than it may have was read
-abbrev pub IsLongFile : Option Files → List Text → ℕ → Type 0
-IsLongFile told words count = (command : Command) × (command_of words ≡ Some command) × IsTooLong told (file_of command) × (count ≡ max_file + 1)
-
-abbrev pub IsLongStatus : Option Files → List Text → Status → Type 0
-IsLongStatus told words (statuses.TooLarge what count) = (what ≡ counted.FileBytes) × IsLongFile told words count
-IsLongStatus told words other = ⊥
-
--- the words name a file of these bytes
-abbrev pub IsRead : Option Files → List Text → Command → Text → Type 0
-IsRead told words command bytes = (command_of words ≡ Some command) × IsFile told (file_of command) bytes
-
--- No file was read, or it is too long, and nothing was written. Or the verdict on its bytes says the rest.
-abbrev pub Answers : Option Files → List Text → Status → Option Text → Option Text → Type 0
-Answers told words status old new =
-    (IsUnreadStatus words status × (new ≡ old))
-    ⊎ (IsLongStatus told words status × (new ≡ old))
-    ⊎ ((command : Command) × (bytes : Text) × IsRead told words command bytes × AnswersVerdict (verdict_on command bytes) status old new)
+-- the word names a file that is too long, those before it were read, and one byte more than it may have was read
+abbrev pub IsLongFile : Option Files → List Text → ℕ → ℕ → Type 0
+IsLongFile told words word count =
+    (command : Command) × (command_of words ≡ Some command) × Reaches told words (files_of command) word × IsTooLong told (word_at words word)
+    × (count ≡ limits.MAX_FILE_BYTES + 1)
 
 -- a status with which nothing is written
 abbrev pub IsSilent : Status → Type 0
@@ -72,9 +61,11 @@ IsSilent other = Unit {0}
 
 -- ---- faults
 
--- the words name a file that was not read
-abbrev pub IsUnreadFile : ℕ → ℕ → Option Text → Option Files → List Text → Type 0
-IsUnreadFile faults faults' blamed told words = (command : Command) × (command_of words ≡ Some command) × IsUnread faults faults' blamed told (file_of command)
+-- the word names a file that was not read, and those before it were read
+abbrev pub IsUnreadFile : ℕ → ℕ → Option Text → Option Files → List Text → ℕ → Type 0
+IsUnreadFile faults faults' blamed told words word =
+    (command : Command) × (command_of words ≡ Some command) × Reaches told words (files_of command) word
+    × IsUnread faults faults' blamed told (word_at words word)
 
 -- ---- the headline
 
@@ -85,29 +76,50 @@ IsPrinted statuses.NotReady = Unit {0}
 IsPrinted statuses.WriteFault = Unit {0}
 IsPrinted other = ⊥
 
--- where files are told: no row of the script's view runs twice, each runs after its dependencies, and a touched name is
--- ready exactly where all of its closure is good
-abbrev pub HoldsOfScript : Option Files → List Text → Status → Type 0
-HoldsOfScript told words status =
-    IfSome told (λ files. (script : Text) → command_of words ≡ Some (Drive script) → IsPrinted status → IfSome (map.get files script) (IsSound never))
+-- the output was written whole, or with a fault of writing a front of it
+abbrev pub Writes : Status → Text → Option Text → Option Text → Type 0
+Writes statuses.WriteFault text old new = AppendsFront old text new
+Writes other text old new = new ≡ appended old text
+
+-- The file of the script, which word 1 names, has these bytes. What was written is what is printed for the view of these
+-- bytes and its steps: of that view no row runs twice, each runs after its dependencies, and a touched name is ready
+-- exactly where all of its closure is good.
+pub record PrintsSoundly (told : Option Files) (words : List Text) (status : Status) (old new : Option Text) : Type 0 where
+  pub bytes : Text
+  pub file : IsFile told (word_at words 1) bytes
+  pub writes : Writes status (output_of (view_of never bytes) (reverse (steps_of bytes))) old new
+  pub sound : IsSound never bytes
+
+abbrev pub HoldsOfScript : Option Files → List Text → Status → Option Text → Option Text → Type 0
+HoldsOfScript told words status old new = command_of words ≡ Some Drive → IsPrinted status → PrintsSoundly told words status old new
 
 -- ---- completeness
 
-abbrev pub status_of_verdict : Verdict → Status
-status_of_verdict (Prints text ready) = if ready then statuses.Done else statuses.NotReady
-status_of_verdict (BadLine line why) = statuses.BadInput 1 line why
-status_of_verdict (TooMany what count) = statuses.TooLarge what count
+-- a file that ends a call: it is not there, or it is too long
+abbrev pub file_end : Files → List Text → ℕ → Option Ending
+file_end files words word =
+    option_map_or (λ bytes. if nat_lt limits.MAX_FILE_BYTES (length bytes) then Some (long word) else None) (map.get files (word_at words word))
+    (Some (about word statuses.ReadFault))
 
-abbrev pub status_of_file : Command → Option Text → Status
-status_of_file command None = statuses.ReadFault
-status_of_file command (Some bytes) =
-    if nat_lt max_file (length bytes) then statuses.TooLarge counted.FileBytes (max_file + 1) else status_of_verdict (verdict_on command bytes)
+-- the first of the files that does
+abbrev pub first_end : Files → List Text → List ℕ → Option Ending
+first_end files words [] = None
+first_end files words (word ∷ places) = option_or (file_end files words word) (first_end files words places)
 
--- the status of the words and the files alone
-abbrev pub expected_status : Files → List Text → Status
-expected_status files words = option_map_or (λ command. status_of_file command (map.get files (file_of command))) (command_of words) statuses.BadWords
+-- the bytes of the files
+abbrev pub bytes_at : Files → List Text → List ℕ → List Text
+bytes_at files words places = map (λ word. unwrap_or (map.get files (word_at words word)) []) places
 
--- where files are told and nothing failed, this is the status, but for want of memory
-abbrev pub Completes : Option Files → List Text → ℕ → ℕ → ℕ → ℕ → Status → Type 0
-Completes told words tree_faults tree_faults' out_faults out_faults' status =
-    IfSome told (λ files. IsQuiet tree_faults tree_faults' → IsQuiet out_faults out_faults' → (status ≡ statuses.NoMemory) ⊎ (status ≡ expected_status files words))
+abbrev pub command_end : Files → List Text → Command → Ending
+command_end files words command =
+    unwrap_or (first_end files words (files_of command)) (of_verdict (verdict_on command (bytes_at files words (files_of command))))
+
+-- the ending of the words and the files alone
+abbrev pub expected_end : Files → List Text → Ending
+expected_end files words = option_map_or (command_end files words) (command_of words) (plain statuses.BadWords)
+
+-- where files are told and nothing failed, a call ends so, but for want of memory
+abbrev pub Completes : Option Files → List Text → ℕ → ℕ → ℕ → ℕ → Ending → Type 0
+Completes told words tree_faults tree_faults' out_faults out_faults' end =
+    IfSome told (λ files. IsQuiet tree_faults tree_faults' → IsQuiet out_faults out_faults' →
+    (end ≡ plain statuses.NoMemory) ⊎ (end ≡ expected_end files words))

@@ -1,8 +1,11 @@
 pub mod Answers
 pub mod Code
+pub mod Ending
 pub mod Files
-pub mod Loads
 pub mod Meant
+pub mod Spelt
+pub mod Stops
 pub mod Told
+pub mod Verdict
 pub mod Words
 pub mod Written

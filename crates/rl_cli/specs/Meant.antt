@@ -4,5 +4,5 @@ use Rattle.rl_cli.specs.declared.words.Command.{Command}
 use Rattle.rl_cli.specs.declared.words.Command.TheVariants.{Drive, Load}
 
 abbrev pub meant : Command → words.Command
-meant (Drive script) = words.Drive script.now
-meant (Load definitions query) = words.Load definitions.now query.now
+meant Drive = words.Drive
+meant (Load query) = words.Load query.now

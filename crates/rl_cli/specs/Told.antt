@@ -1,51 +1,30 @@
 -- The line that tells a person how a call ended.
-use Rattle.std.specs.Prelude.{ℕ, ◌++◌, ◌==◌, if◌then◌else◌, List, length, slice_index_or, Option, Some, None, codes, decimal}
+use Rattle.std.specs.Prelude.{ℕ, ◌++◌, ◌==◌, if◌then◌else◌, List, length, Option, Some, None, codes, decimal}
+use Rattle.std.specs.Option.{option_map_or}
+use Rattle.rl_names.specs.Limits.{limit_of, unit_of}
+use Rattle.rl_names.specs.Rules.{rule_of, sentence_of}
 use Rattle.rl_names.specs.declared.counted.Counted.{Counted}
-use Rattle.rl_names.specs.declared.counted.Counted.TheVariants as counted
+use Rattle.rl_base.specs.Reason.{words_of}
+use Rattle.rl_base.specs.declared.fault.Reason.{Reason}
 use Rattle.rl_view_spec.specs.Closure.{Text}
 use Rattle.rl_defs.specs.declared.error.CatalogError.{CatalogError}
 use Rattle.rl_defs.specs.declared.error.CatalogError.TheVariants as breaches
+use Rattle.rl_cli.specs.Spelt.{spelt}
+use Rattle.rl_cli.specs.Words.{word_at}
 use Rattle.rl_cli.specs.declared.status.Status.{Status}
 use Rattle.rl_cli.specs.declared.status.Status.TheVariants as statuses
 
--- the word of a place
-abbrev pub word_at : List Text → ℕ → Text
-word_at words place = slice_index_or words place (codes "the input")
+-- what breaks the rule of a number
+abbrev pub rule_text : ℕ → Text
+rule_text why = option_map_or sentence_of (rule_of why) (codes "against the rules")
 
--- the rule that a number stands for
-abbrev pub rule_of : ℕ → Text
-rule_of why =
-    if why == 1 then codes "not a line of the grammar" else
-    if why == 3 then codes "a line out of its place" else
-    if why == 4 then codes "not UTF-8" else
-    if why == 11 then codes "not TOML" else
-    if why == 12 then codes "a table, key or value that definitions do not have" else
-    if why == 13 then codes "a name that breaks its rule" else
-    if why == 14 then codes "a dependency that no module has as its name" else
-    if why == 15 then codes "a listed file that is not among the files" else
-    if why == 16 then codes "a language with a bad chain of fallbacks" else
-    if why == 18 then codes "a source that is not declared" else
-    if why == 22 then codes "a name that stands twice" else
-    codes "against the rules"
+-- a file, and a line where one is told
+abbrev pub place_text : Text → ℕ → Text
+place_text file line = if line == 0 then spelt file ++ codes ": " else spelt file ++ codes ", line " ++ decimal line ++ codes ": "
 
--- what is counted, and how many of it there may be
-abbrev pub limit_of : Counted → Text
-limit_of counted.FileBytes = codes "bytes at least, and a file may have 16777216"
-limit_of counted.Modules = codes "modules, and there may be 3500"
-limit_of counted.ListedBytes = codes "bytes in the files that modules list, and there may be 67108864"
-limit_of counted.Rows = codes "rows, and there may be 4096"
-limit_of counted.Dependencies = codes "dependencies in one list, and there may be 256"
-limit_of counted.Steps = codes "steps at least, and there may be 65536"
-limit_of counted.Answers = codes "bytes of kept answers, and there may be 67108864"
-limit_of counted.QueryBytes = codes "bytes in the query, and there may be 16384"
-limit_of counted.Names = codes "names in the query, and there may be 1000"
-limit_of counted.AnswerBytes = codes "bytes in the answer, and there may be 67108864"
-
--- a file at fault, in a line where one is told, with the rule and its number
+-- a file at fault, with the rule and its number
 abbrev pub rule_line : Text → ℕ → ℕ → Text
-rule_line file line why =
-    if line == 0 then file ++ codes ": " ++ rule_of why ++ codes " (" ++ decimal why ++ codes ")"
-    else file ++ codes ", line " ++ decimal line ++ codes ": " ++ rule_of why ++ codes " (" ++ decimal why ++ codes ")"
+rule_line file line why = place_text file line ++ (rule_text why ++ codes " (" ++ decimal why ++ codes ")")
 
 -- what is wrong, and the number of the rule
 abbrev pub fault_text : Text → ℕ → Text
@@ -53,17 +32,23 @@ fault_text fault why = codes " " ++ fault ++ codes " (" ++ decimal why ++ codes 
 
 -- something of definitions at fault, by its name
 abbrev pub named_line : Text → Text → Text → Text → ℕ → Text
-named_line file kind name fault why = (file ++ codes ": " ++ kind ++ codes " `" ++ name ++ codes "`") ++ fault_text fault why
+named_line file kind name fault why = (spelt file ++ codes ": " ++ kind ++ codes " " ++ spelt name) ++ fault_text fault why
 
 -- something that a module has and that is at fault
 abbrev pub had_line : Text → Text → Text → Text → Text → ℕ → Text
 had_line file owner has name fault why =
-    (file ++ codes ": module `" ++ owner ++ codes "`") ++ (codes " " ++ has ++ codes " `" ++ name ++ codes "`, which") ++ fault_text fault why
+    (spelt file ++ codes ": module " ++ spelt owner) ++ (codes " " ++ has ++ codes " " ++ spelt name ++ codes ", which") ++ fault_text fault why
+
+-- A field of no module. Where its name is empty, it may be a module without a name that is no table.
+abbrev pub ownerless_line : Text → Text → ℕ → Text
+ownerless_line file field why =
+    if length field == 0 then named_line file (codes "the module or the field") field (codes "is unknown or has a bad value") why
+    else named_line file (codes "the field") field (codes "is unknown or has a bad value") why
 
 -- a field that definitions do not have: of no module, or of a module that is no table, or of a module
 abbrev pub field_line : Text → Text → Text → ℕ → Text
 field_line file owner field why =
-    if length owner == 0 then named_line file (codes "the field") field (codes "is unknown or has a bad value") why
+    if length owner == 0 then ownerless_line file field why
     else if length field == 0 then named_line file (codes "module") owner (codes "is no table") why
     else had_line file owner (codes "has the field") field (codes "is unknown or has a bad value") why
 
@@ -81,12 +66,30 @@ abbrev pub input_line : Text → Option CatalogError → ℕ → ℕ → Text
 input_line file None line why = rule_line file line why
 input_line file (Some breach) line why = breach_line file breach why
 
-abbrev pub told_line : List Text → Status → Option CatalogError → Text
-told_line words statuses.Done breach = codes "done"
-told_line words statuses.BadWords breach = codes "no command has these words; `loader --help` lists them"
-told_line words (statuses.BadInput word line why) breach = input_line (word_at words word) breach line why
-told_line words (statuses.TooLarge what count) breach = word_at words 1 ++ codes ": " ++ decimal count ++ codes " " ++ limit_of what
-told_line words statuses.NotReady breach = word_at words 1 ++ codes ": a request was refused, or a requested module is not ready"
-told_line words statuses.ReadFault breach = word_at words 1 ++ codes ": could not be read"
-told_line words statuses.WriteFault breach = codes "the output could not be written"
-told_line words statuses.NoMemory breach = codes "out of memory"
+-- how many there are, and how many there may be
+abbrev pub limit_line : Text → ℕ → Text → ℕ → Text
+limit_line word count unit limit = (spelt word ++ codes ": " ++ decimal count ++ codes " " ++ unit) ++ (codes ", and there may be " ++ decimal limit)
+
+abbrev pub count_line : Text → Counted → ℕ → Text
+count_line word what count = limit_line word count (unit_of what) (limit_of what)
+
+-- a fault of the outside, and the system's reason where it is known
+abbrev pub reason_text : Option Reason → Text
+reason_text None = codes ""
+reason_text (Some reason) = codes ": " ++ words_of reason
+
+abbrev pub unread_line : Text → Option Reason → Text
+unread_line file reason = (spelt file ++ codes ": could not be read") ++ reason_text reason
+
+abbrev pub unwritten_line : Option Reason → Text
+unwritten_line reason = codes "the output could not be written" ++ reason_text reason
+
+abbrev pub told_line : List Text → Status → ℕ → Option CatalogError → Option Reason → Text
+told_line words statuses.Done word breach reason = codes "done"
+told_line words statuses.BadWords word breach reason = codes "no command has these words; `loader --help` lists them"
+told_line words (statuses.BadInput place line why) word breach reason = input_line (word_at words place) breach line why
+told_line words (statuses.TooLarge what count) word breach reason = count_line (word_at words word) what count
+told_line words statuses.NotReady word breach reason = codes "a request was refused, or a requested module is not ready"
+told_line words statuses.ReadFault word breach reason = unread_line (word_at words word) reason
+told_line words statuses.WriteFault word breach reason = unwritten_line reason
+told_line words statuses.NoMemory word breach reason = codes "out of memory"

@@ -1,23 +1,23 @@
-ghost use Rattle.std.specs.Prelude.{◌≡◌, ◌≢◌, ◌↔◌, ◌≤◌, ℕ, None};
+//! The top call.
+ghost use Rattle.std.specs.Prelude.{◌≡◌, ◌↔◌, ◌≤◌, ℕ, None, Ok, length};
 ghost use Rattle.rl_base.specs.Causes.{Rose};
-ghost use Rattle.rl_script_spec.specs.Script.{verdict_of, Prints};
-ghost use Rattle.rl_drive.specs.Drives.{never};
-ghost use Rattle.rl_cli.specs.Loads.{load_verdict};
-ghost use Rattle.rl_cli.specs.Words.{command_of, texts};
+ghost use Rattle.rl_cli.specs.Answers.{Answers, AnswersVerdict, Completes, HoldsOfScript, IsLongFile, IsSilent, IsUnreadFile};
+ghost use Rattle.rl_cli.specs.Ending.{ending};
 ghost use Rattle.rl_cli.specs.Meant.{meant};
-ghost use Rattle.rl_cli.specs.Answers.{Answers, AnswersVerdict, verdict_on, IsSilent, IsUnreadFile, IsLongFile, HoldsOfScript, Completes};
+ghost use Rattle.rl_cli.specs.Verdict.{verdict_on};
+ghost use Rattle.rl_cli.specs.Words.{command_of, files_of, texts};
 
-use crate::file::{FileError, MAX_FILE, read_file};
-use crate::load::{LoadError, load};
+use crate::end::End;
+use crate::file::{FileError, read_files};
 use crate::output::write_all;
 use crate::status::{Ended, Status};
 use crate::words::Command;
+use crate::work::{Printed, work};
 use rl_base::{Observer, Sink, SinkError, Tree};
-use rl_drive::{DriveError, drive};
-use rl_names::Counted;
+use rl_names::{Blob, Counted, MAX_FILE_BYTES};
 use std::alloc::Global;
 
-/// Does what the words say: reads the words, fetches the file that they name and checks its size, does
+/// Does what the words say: reads the words, fetches each file that they name and checks its size, does
 /// the work, and writes the output once it is whole. The observers are handed back, and none is told
 /// of anything yet.
 pub fn run<T: Tree, O: Sink>(
@@ -29,95 +29,91 @@ pub fn run<T: Tree, O: Sink>(
 ) -> Ended
     ensures observers { result.observers.items ≡ observers.items }
 
-    // The status, and what was written, by the words and the bytes of the file that they name.
+    // How the call ends, and what it wrote, by the words and the bytes of the files that they name.
     ensures bad_words { (result.status ≡ Status.BadWords) ↔ (command_of (texts words.now) ≡ None) }
-    ensures answer { Answers (T.files tree.old) (texts words.now) result.status (O.written out.old) (O.written out.new) }
-    ensures too_large { (count : ℕ) → result.status ≡ Status.TooLarge Counted.FileBytes count → IsLongFile (T.files tree.old) (texts words.now) count }
+    ensures answer { Answers (T.files tree.old) (texts words.now) (ending result.status result.word result.breach) (O.written out.old) (O.written out.new) }
+    ensures too_large { (count : ℕ) → result.status ≡ Status.TooLarge Counted.FileBytes count
+        → IsLongFile (T.files tree.old) (texts words.now) result.word count }
     ensures unwritten { IsSilent result.status → O.written out.new ≡ O.written out.old }
 
     // A fault comes only where its own count of faults rose, or the file is told and not there.
-    ensures read_fault { result.status ≡ Status.ReadFault → IsUnreadFile (T.faults tree.old) (T.faults tree.new) (T.blamed tree.new) (T.files tree.old) (texts words.now) }
+    ensures read_fault { result.status ≡ Status.ReadFault
+        → IsUnreadFile (T.faults tree.old) (T.faults tree.new) (T.blamed tree.new) (T.files tree.old) (texts words.now) result.word }
     ensures write_fault { result.status ≡ Status.WriteFault → Rose (O.faults out.old) (O.faults out.new) }
 
-    // Where the tree tells its files: the headline of the script that was printed; and with no fault the
-    // status is that of the words and the files alone, but for want of memory.
-    ensures headline { HoldsOfScript (T.files tree.old) (texts words.now) result.status }
-    ensures complete { Completes (T.files tree.old) (texts words.now) (T.faults tree.old) (T.faults tree.new) (O.faults out.old) (O.faults out.new) result.status }
+    // No file changes, and no count of faults falls.
+    ensures files_stay { T.files tree.new ≡ T.files tree.old }
+    ensures tree_never_falls { T.faults tree.old ≤ T.faults tree.new }
+    ensures out_never_falls { O.faults out.old ≤ O.faults out.new }
+
+    // The headline of the script whose output was printed, and, where the tree tells its files, that with
+    // no fault the ending is that of the words and the files alone, but for want of memory.
+    ensures headline { HoldsOfScript (T.files tree.old) (texts words.now) result.status (O.written out.old) (O.written out.new) }
+    ensures complete { Completes (T.files tree.old) (texts words.now) (T.faults tree.old) (T.faults tree.new) (O.faults out.old) (O.faults out.new)
+        (ending result.status result.word result.breach) }
 {
-    let status = status_of(alloc, words, tree, out);
-    Ended { status, observers }
+    let End {
+        status,
+        word,
+        breach,
+    } = end_of(alloc, words, tree, out);
+    Ended {
+        status,
+        word,
+        breach,
+        observers,
+    }
 }
 
-/// The status of a call, which writes its output.
-fn status_of<T: Tree, O: Sink>(alloc: Global, words: &[&str], tree: &mut T, out: &mut O) -> Status
-    ensures answer { Answers (T.files tree.old) (texts words.now) result (O.written out.old) (O.written out.new) }
-    ensures read_fault { result ≡ Status.ReadFault → IsUnreadFile (T.faults tree.old) (T.faults tree.new) (T.blamed tree.new) (T.files tree.old) (texts words.now) }
-    ensures write_fault { result ≡ Status.WriteFault → Rose (O.faults out.old) (O.faults out.new) }
+/// How a call ends, which writes its output.
+fn end_of<T: Tree, O: Sink>(alloc: Global, words: &[&str], tree: &mut T, out: &mut O) -> End
+    ensures answer { Answers (T.files tree.old) (texts words.now) (ending result.status result.word result.breach) (O.written out.old) (O.written out.new) }
+    ensures read_fault { result.status ≡ Status.ReadFault
+        → IsUnreadFile (T.faults tree.old) (T.faults tree.new) (T.blamed tree.new) (T.files tree.old) (texts words.now) result.word }
+    ensures write_fault { result.status ≡ Status.WriteFault → Rose (O.faults out.old) (O.faults out.new) }
+    ensures files_stay { T.files tree.new ≡ T.files tree.old }
+    ensures tree_never_falls { T.faults tree.old ≤ T.faults tree.new }
+    ensures out_never_falls { O.faults out.old ≤ O.faults out.new }
 {
     let Some(command) = Command::read(words) else {
-        return Status::BadWords;
+        return End::plain(Status::BadWords);
     };
-    match read_file(tree, command.file()) {
-        Ok(bytes) => answer(alloc, &command, bytes.as_bytes(), out),
-        Err(FileError::Failed) => Status::ReadFault,
-        Err(FileError::TooLong) => Status::TooLarge {
-            what: Counted::FileBytes,
-            count: MAX_FILE + 1,
-        },
-        Err(FileError::NoMemory) => Status::NoMemory,
+    match read_files(alloc, tree, words, command.files()) {
+        Ok(files) => answer(alloc, &command, files.as_slice(), out),
+        Err(FileError::Failed { word }) => End::about(word, Status::ReadFault),
+        Err(FileError::TooLong { word }) => {
+            let what = Counted::FileBytes;
+            let count = MAX_FILE_BYTES + 1;
+            End::about(word, Status::TooLarge { what, count })
+        }
+        Err(FileError::NoMemory) => End::plain(Status::NoMemory),
     }
 }
 
-/// Does what a command asks for of the bytes of its file, and writes the output.
-fn answer<O: Sink>(alloc: Global, command: &Command, bytes: &[u8], out: &mut O) -> Status
-    ensures answers { AnswersVerdict (verdict_on (meant command.now) bytes.now) result (O.written out.old) (O.written out.new) }
-    ensures write_fault { result ≡ Status.WriteFault → Rose (O.faults out.old) (O.faults out.new) }
+/// Does what a command asks for of the bytes of its files, and writes the output.
+fn answer<O: Sink>(alloc: Global, command: &Command, files: &[Blob], out: &mut O) -> End
+    requires { length files.now ≡ length (files_of (meant command.now)) }
+    ensures answers { AnswersVerdict (verdict_on (meant command.now) files.now) (ending result.status result.word result.breach)
+        (O.written out.old) (O.written out.new) }
+    ensures write_fault { result.status ≡ Status.WriteFault → Rose (O.faults out.old) (O.faults out.new) }
+    ensures never_falls { O.faults out.old ≤ O.faults out.new }
 {
-    match command {
-        Command::Drive { .. } => answer_script(alloc, bytes, out),
-        Command::Load { query, .. } => answer_query(alloc, bytes, query, out),
-    }
-}
-
-/// Does what a script says, and writes what it prints.
-fn answer_script<O: Sink>(alloc: Global, bytes: &[u8], out: &mut O) -> Status
-    ensures answers { AnswersVerdict (verdict_of never bytes.now) result (O.written out.old) (O.written out.new) }
-    ensures write_fault { result ≡ Status.WriteFault → Rose (O.faults out.old) (O.faults out.new) }
-{
-    match drive(alloc, bytes) {
-        Ok(driven) => write_output(driven.ready, driven.text.as_slice(), out),
-        Err(DriveError::BadInput { line, why }) => Status::BadInput { word: 1, line, why },
-        Err(DriveError::TooLarge { what, count }) => Status::TooLarge { what, count },
-        Err(DriveError::NoMemory) => Status::NoMemory,
-    }
-}
-
-/// Answers a query from definitions, and writes the body.
-fn answer_query<O: Sink>(alloc: Global, definitions: &[u8], query: &str, out: &mut O) -> Status
-    ensures answers { AnswersVerdict (load_verdict query.now definitions.now) result (O.written out.old) (O.written out.new) }
-    ensures write_fault { result ≡ Status.WriteFault → Rose (O.faults out.old) (O.faults out.new) }
-{
-    match load(alloc, definitions, query) {
-        Ok(body) => write_output(true, body.as_bytes(), out),
-        Err(LoadError::BadDefinitions { why }) => Status::BadInput {
-            word: 1,
-            line: 0,
-            why,
-        },
-        Err(LoadError::TooLarge { what, count }) => Status::TooLarge { what, count },
-        Err(LoadError::NoMemory) => Status::NoMemory,
+    match work(alloc, command, files) {
+        Ok(printed) => write_output(&printed, out),
+        Err(error) => End::of(error),
     }
 }
 
 /// Writes an output.
-fn write_output<O: Sink>(ready: bool, text: &[u8], out: &mut O) -> Status
-    ensures answers { AnswersVerdict (Prints text.now ready) result (O.written out.old) (O.written out.new) }
-    ensures write_fault { result ≡ Status.WriteFault → Rose (O.faults out.old) (O.faults out.new) }
+fn write_output<O: Sink>(printed: &Printed, out: &mut O) -> End
+    ensures answers { AnswersVerdict (Ok printed.now) (ending result.status result.word result.breach) (O.written out.old) (O.written out.new) }
+    ensures write_fault { result.status ≡ Status.WriteFault → Rose (O.faults out.old) (O.faults out.new) }
+    ensures never_falls { O.faults out.old ≤ O.faults out.new }
 {
-    match write_all(out, text) {
-        Ok(()) if ready => Status::Done,
-        Ok(()) => Status::NotReady,
-        Err(SinkError::Failed) => Status::WriteFault,
-        Err(SinkError::NoMemory) => Status::NoMemory,
+    match write_all(out, printed.text.as_bytes()) {
+        Ok(()) if printed.ready => End::plain(Status::Done),
+        Ok(()) => End::plain(Status::NotReady),
+        Err(SinkError::Failed) => End::plain(Status::WriteFault),
+        Err(SinkError::NoMemory) => End::plain(Status::NoMemory),
     }
 }

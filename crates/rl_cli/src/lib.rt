@@ -2,18 +2,19 @@
 //! ended.
 #![tactic(auto)]
 
-mod breach;
 mod call;
+mod end;
 mod file;
-mod load;
 mod output;
 mod report;
+mod spelt;
 mod status;
 mod words;
+mod work;
 
-pub use breach::breach_of;
 pub use call::run;
 pub use report::Report;
+pub use spelt::Spelt;
 pub use status::{Ended, Status};
 
 #[cfg(test)]

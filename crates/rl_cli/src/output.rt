@@ -1,3 +1,4 @@
+//! The output, written whole.
 ghost use Rattle.std.specs.Prelude.{◌≡◌, ◌≤◌, OnOk, OnErr, IsErrOf};
 ghost use Rattle.rl_base.specs.Causes.{Rose};
 ghost use Rattle.rl_base.specs.Written.{appended};

@@ -1,71 +1,52 @@
+//! The line that tells a person how a call ended.
 ghost use Rattle.std.specs.Prelude.{◌≡◌, Some};
 ghost use Rattle.std.specs.Fmt.{DisplaysOnOk};
-ghost use Rattle.rl_cli.specs.Told.{breach_line, fault_text, field_line, had_line, input_line, limit_of, named_line, rule_line, rule_of, word_at};
-ghost use Rattle.rl_cli.specs.Words.{texts};
+ghost use Rattle.rl_cli.specs.Spelt.{spelt};
+ghost use Rattle.rl_cli.specs.Told.{breach_line, count_line, fault_text, field_line, had_line, input_line, limit_line, named_line, ownerless_line, place_text};
+ghost use Rattle.rl_cli.specs.Told.{reason_text, rule_line, rule_text, unread_line, unwritten_line};
 
+use crate::spelt::Spelt;
 use crate::status::Status;
+use crate::words::word_at;
+use rl_base::Reason;
 use rl_defs::CatalogError;
-use rl_names::{Counted, Text};
+use rl_names::{Counted, Rule, Text};
 use std::fmt;
 
-/// A status as a person reads it, in one line: what is wrong, and where. A rule that has a number is
-/// followed by it in parentheses.
+/// How a call ended as a person reads it, in one line: what is wrong, and where. Words and names are
+/// spelt as JSON strings. A rule that has a number is followed by it in parentheses.
 #[derive(Drop)]
 pub struct Report<'a> {
     /// The words of the call.
     pub words: &'a [&'a str],
     pub status: Status,
-    /// The rule that definitions break, where it is known ([`breach_of`](crate::breach_of)).
+    /// The place of the word that the status is about.
+    pub word: u32,
+    /// What breaks a rule of definitions, where definitions are refused.
     pub breach: Option<CatalogError>,
+    /// Why the system refused, where reading or writing failed and it says so.
+    pub reason: Option<Reason>,
 }
 
-impl<'a> Report<'a> {
-    /// The word of a place, which names a file.
-    fn word(&self, place: u32) -> &'a str
-        ensures { result.now ≡ word_at (texts self.now.words.now) place }
-    {
-        match self.words.get(place as usize) {
-            Some(word) => word,
-            None => "the input",
-        }
-    }
-}
-
-/// The rule that a number stands for.
+/// What breaks the rule of a number.
 fn rule(why: u32) -> &'static str
-    ensures { result.now ≡ rule_of why }
+    ensures { result.now ≡ rule_text why }
 {
-    match why {
-        1 => "not a line of the grammar",
-        3 => "a line out of its place",
-        4 => "not UTF-8",
-        11 => "not TOML",
-        12 => "a table, key or value that definitions do not have",
-        13 => "a name that breaks its rule",
-        14 => "a dependency that no module has as its name",
-        15 => "a listed file that is not among the files",
-        16 => "a language with a bad chain of fallbacks",
-        18 => "a source that is not declared",
-        22 => "a name that stands twice",
-        _ => "against the rules",
+    match Rule::of(why) {
+        Some(rule) => rule.sentence(),
+        None => "against the rules",
     }
 }
 
-/// What is counted, and how many of it there may be.
-fn limit(what: Counted) -> &'static str
-    ensures { result.now ≡ limit_of what }
+/// Writes the name of a file, and a line where one is told.
+fn write_place<W: fmt::Write>(f: &mut fmt::Formatter<W>, file: &str, line: u32) -> fmt::Result
+    ensures { DisplaysOnOk W.write_str_gives f.old result (Some (place_text file.now line)) f.new }
 {
-    match what {
-        Counted::FileBytes => "bytes at least, and a file may have 16777216",
-        Counted::Modules => "modules, and there may be 3500",
-        Counted::ListedBytes => "bytes in the files that modules list, and there may be 67108864",
-        Counted::Rows => "rows, and there may be 4096",
-        Counted::Dependencies => "dependencies in one list, and there may be 256",
-        Counted::Steps => "steps at least, and there may be 65536",
-        Counted::Answers => "bytes of kept answers, and there may be 67108864",
-        Counted::QueryBytes => "bytes in the query, and there may be 16384",
-        Counted::Names => "names in the query, and there may be 1000",
-        Counted::AnswerBytes => "bytes in the answer, and there may be 67108864",
+    let file = Spelt(file);
+    if line == 0 {
+        write!(f, "{file}: ")
+    } else {
+        write!(f, "{file}, line {line}: ")
     }
 }
 
@@ -79,11 +60,8 @@ fn write_rule<W: fmt::Write>(
     ensures { DisplaysOnOk W.write_str_gives f.old result (Some (rule_line file.now line why)) f.new }
 {
     let rule = rule(why);
-    if line == 0 {
-        write!(f, "{file}: {rule} ({why})")
-    } else {
-        write!(f, "{file}, line {line}: {rule} ({why})")
-    }
+    write_place(f, file, line)?;
+    write!(f, "{rule} ({why})")
 }
 
 /// Writes what is wrong, and the number of the rule.
@@ -104,7 +82,8 @@ fn write_named<W: fmt::Write>(
 ) -> fmt::Result
     ensures { DisplaysOnOk W.write_str_gives f.old result (Some (named_line file.now kind.now name.now fault.now why)) f.new }
 {
-    write!(f, "{file}: {kind} `{name}`")?;
+    let (file, name) = (Spelt(file), Spelt(name));
+    write!(f, "{file}: {kind} {name}")?;
     write_fault(f, fault, why)
 }
 
@@ -120,9 +99,27 @@ fn write_had<W: fmt::Write>(
 ) -> fmt::Result
     ensures { DisplaysOnOk W.write_str_gives f.old result (Some (had_line file.now owner.now has.now name.now fault.now why)) f.new }
 {
-    write!(f, "{file}: module `{owner}`")?;
-    write!(f, " {has} `{name}`, which")?;
+    let (file, owner, name) = (Spelt(file), Spelt(owner), Spelt(name));
+    write!(f, "{file}: module {owner}")?;
+    write!(f, " {has} {name}, which")?;
     write_fault(f, fault, why)
+}
+
+/// Writes which field of no module is at fault.
+fn write_ownerless<W: fmt::Write>(
+    f: &mut fmt::Formatter<W>,
+    file: &str,
+    field: &str,
+    why: u32,
+) -> fmt::Result
+    ensures { DisplaysOnOk W.write_str_gives f.old result (Some (ownerless_line file.now field.now why)) f.new }
+{
+    let fault = "is unknown or has a bad value";
+    if field.is_empty() {
+        write_named(f, file, "the module or the field", field, fault, why)
+    } else {
+        write_named(f, file, "the field", field, fault, why)
+    }
 }
 
 /// Writes which field definitions do not have. The owner is empty outside modules, and the field where
@@ -136,13 +133,13 @@ fn write_field<W: fmt::Write>(
 ) -> fmt::Result
     ensures { DisplaysOnOk W.write_str_gives f.old result (Some (field_line file.now owner.now field.now why)) f.new }
 {
-    let fault = "is unknown or has a bad value";
     let (owner, field) = (owner.as_str(), field.as_str());
     if owner.is_empty() {
-        write_named(f, file, "the field", field, fault, why)
+        write_ownerless(f, file, field, why)
     } else if field.is_empty() {
         write_named(f, file, "module", owner, "is no table", why)
     } else {
+        let fault = "is unknown or has a bad value";
         write_had(f, file, owner, "has the field", field, fault, why)
     }
 }
@@ -226,35 +223,99 @@ fn write_input<W: fmt::Write>(
     }
 }
 
+/// Writes how many there are, and how many there may be.
+fn write_limit<W: fmt::Write>(
+    f: &mut fmt::Formatter<W>,
+    word: &str,
+    count: u64,
+    unit: &str,
+    limit: u64,
+) -> fmt::Result
+    ensures { DisplaysOnOk W.write_str_gives f.old result (Some (limit_line word.now count unit.now limit)) f.new }
+{
+    let word = Spelt(word);
+    write!(f, "{word}: {count} {unit}")?;
+    write!(f, ", and there may be {limit}")
+}
+
+/// Writes that there is more of something than its limit allows.
+fn write_count<W: fmt::Write>(
+    f: &mut fmt::Formatter<W>,
+    word: &str,
+    what: Counted,
+    count: u64,
+) -> fmt::Result
+    ensures { DisplaysOnOk W.write_str_gives f.old result (Some (count_line word.now what count)) f.new }
+{
+    write_limit(f, word, count, what.unit(), what.limit())
+}
+
+/// Writes the system's reason, where it is known.
+fn write_reason<W: fmt::Write>(f: &mut fmt::Formatter<W>, reason: Option<Reason>) -> fmt::Result
+    ensures { DisplaysOnOk W.write_str_gives f.old result (Some (reason_text reason)) f.new }
+{
+    match reason {
+        Some(reason) => {
+            let words = reason.words();
+            write!(f, ": {words}")
+        }
+        None => f.write_str(""),
+    }
+}
+
+/// Writes that the output could not be written.
+fn write_unwritten<W: fmt::Write>(f: &mut fmt::Formatter<W>, reason: Option<Reason>) -> fmt::Result
+    ensures { DisplaysOnOk W.write_str_gives f.old result (Some (unwritten_line reason)) f.new }
+{
+    f.write_str("the output could not be written")?;
+    write_reason(f, reason)
+}
+
+/// Writes that a file could not be read.
+fn write_unread<W: fmt::Write>(
+    f: &mut fmt::Formatter<W>,
+    file: &str,
+    reason: Option<Reason>,
+) -> fmt::Result
+    ensures { DisplaysOnOk W.write_str_gives f.old result (Some (unread_line file.now reason)) f.new }
+{
+    write_name(f, file)?;
+    f.write_str(": could not be read")?;
+    write_reason(f, reason)
+}
+
+/// Writes a name as it is spelt.
+fn write_name<W: fmt::Write>(f: &mut fmt::Formatter<W>, name: &str) -> fmt::Result
+    ensures { DisplaysOnOk W.write_str_gives f.old result (Some (spelt name.now)) f.new }
+{
+    let name = Spelt(name);
+    write!(f, "{name}")
+}
+
 impl<'a> fmt::Display for Report<'a> {
     ghost use Rattle.std.specs.Prelude.{Some};
     ghost use Rattle.rl_cli.specs.Told.{told_line};
     ghost use Rattle.rl_cli.specs.Words.{texts};
 
-    ghost output = { λ r. Some (told_line (texts r.words.now) r.status r.breach) };
+    ghost output = { λ r. Some (told_line (texts r.words.now) r.status r.word r.breach r.reason) };
 
     fn fmt<W: fmt::Write>(&self, f: &mut fmt::Formatter<W>) -> fmt::Result {
-        let file = self.word(1);
         match self.status {
             Status::Done => f.write_str("done"),
             Status::BadWords => f.write_str(
                 "no command has these words; `loader --help` lists them",
             ),
             Status::BadInput { word, line, why } => {
-                write_input(f, self.word(word), &self.breach, line, why)
+                write_input(f, word_at(self.words, word), &self.breach, line, why)
             }
             Status::TooLarge { what, count } => {
-                let limit = limit(what);
-                write!(f, "{file}: {count} {limit}")
+                write_count(f, word_at(self.words, self.word), what, count)
             }
             Status::NotReady => {
-                write!(
-                    f,
-                    "{file}: a request was refused, or a requested module is not ready"
-                )
+                f.write_str("a request was refused, or a requested module is not ready")
             }
-            Status::ReadFault => write!(f, "{file}: could not be read"),
-            Status::WriteFault => f.write_str("the output could not be written"),
+            Status::ReadFault => write_unread(f, word_at(self.words, self.word), self.reason),
+            Status::WriteFault => write_unwritten(f, self.reason),
             Status::NoMemory => f.write_str("out of memory"),
         }
     }

@@ -1,7 +1,9 @@
+//! How a call ends, and the exit code.
 ghost use Rattle.std.specs.Prelude.{◌≡◌};
 ghost use Rattle.rl_cli.specs.Code.{code_of};
 
 use rl_base::Observer;
+use rl_defs::CatalogError;
 use rl_names::Counted;
 
 /// How a call ended.
@@ -27,10 +29,15 @@ pub enum Status {
     NoMemory,
 }
 
-/// How a call ended, and the observers that it was given.
+/// How a call ended, what that is about, and the observers that it was given.
 #[derive(Drop)]
 pub struct Ended {
     pub status: Status,
+    /// The place of the word that the status is about: a file that breaks a rule, is too long, holds too
+    /// much or was not read, or a query that is refused. 0 where it is about none.
+    pub word: u32,
+    /// Where definitions are refused: the rule that they break, with the module and the field.
+    pub breach: Option<CatalogError>,
     pub observers: Vec<Box<dyn Observer + Send>>,
 }
 

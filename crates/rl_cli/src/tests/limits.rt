@@ -1,3 +1,4 @@
+//! Scripts and files at their limits and above.
 use super::driven;
 use crate::Status;
 use rl_names::Counted;

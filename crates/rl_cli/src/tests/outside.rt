@@ -1,10 +1,11 @@
-ghost use Rattle.std.specs.Prelude.{◌≡◌, ◌≢◌, ◌≤◌, [], IfOk, IsErrOf, OnErr, length};
+//! An outside that fails, and the line that a person reads.
+ghost use Rattle.std.specs.Prelude.{[]};
 
 use super::tree_of;
 use crate::report::Report;
-use crate::{Status, breach_of, run};
-use rl_base::{DirTree, FetchError, MemSink, MemTree, Sink, SinkError, StdSink, Tree};
-use rl_names::Counted;
+use crate::{Status, run};
+use rl_base::{DirTree, FetchError, MemSink, MemTree, Reason, Sink, SinkError, StdSink, Tree};
+use rl_names::{Blob, Text};
 use std::alloc::Global;
 use std::test::Fail;
 
@@ -136,6 +137,9 @@ fn faults_of_the_outside(rt: HostRuntime) -> Result<(), Fail> {
 fn real_forms(rt: HostRuntime) -> Result<(), Fail> {
     let mut tree = DirTree::new(&rt, rt.alloc());
     assert!(rt; matches!(tree.fetch("no such file", 1), Err(FetchError::Failed)));
+    assert_eq!(rt; tree.reason(), Some(Reason::NoSuchFile));
+    assert!(rt; matches!(tree.fetch("/", 1), Err(FetchError::Failed)));
+    assert_eq!(rt; tree.reason(), Some(Reason::IsFolder));
     let mut out = StdSink::new(&rt);
     assert_eq!(rt; out.write(b""), Ok(0));
     Ok(())
@@ -179,92 +183,105 @@ fn words(rt: HostRuntime) -> Result<(), Fail> {
     Ok(())
 }
 
-/// The line that a person reads.
-fn line(alloc: Global, status: Status) -> Result<String, Fail> {
-    let words = ["drive", "chain.script"];
-    let report = Report {
-        words: &words,
-        status,
-        breach: None,
-    };
-    Ok(format!(in alloc; "{report}")?)
-}
-
-/// The line that a person reads of these definitions.
-fn line_of_definitions(alloc: Global, definitions: &str) -> Result<String, Fail> {
-    let words = ["load", "wiki.toml", "-", "-", ""];
-    let mut tree = tree_of(alloc, "wiki.toml", definitions.as_bytes())?;
+/// The line that a person reads of a call with these words over these files.
+fn line(alloc: Global, words: &[&str], tree: &mut MemTree) -> Result<String, Fail> {
     let mut out = MemSink::new(alloc, Vec::new(alloc))?;
-    let status = run(alloc, &words, &mut tree, &mut out, Vec::new(alloc)).status;
-    let breach = breach_of(alloc, &words, &mut tree);
+    let ended = run(alloc, words, tree, &mut out, Vec::new(alloc));
     let report = Report {
-        words: &words,
-        status,
-        breach,
+        words,
+        status: ended.status,
+        word: ended.word,
+        breach: ended.breach,
+        reason: None,
     };
     Ok(format!(in alloc; "{report}")?)
 }
 
+/// The definitions are read once: a second fetch would fail.
 #[test]
 fn what_is_told_of_definitions(rt: HostRuntime) -> Result<(), Fail> {
+    let alloc = rt.alloc();
+    let words = ["load", "wiki.toml", "-", "-", ""];
     for (definitions, text) in [
-        ("[", "wiki.toml: not TOML (11)"),
+        ("[", "\"wiki.toml\": not TOML (11)"),
         (
             "wiki.colour = 1",
-            "wiki.toml: the field `colour` is unknown or has a bad value (12)",
+            "\"wiki.toml\": the field \"colour\" is unknown or has a bad value (12)",
         ),
-        ("modules.a = 3", "wiki.toml: module `a` is no table (12)"),
+        (
+            "modules.a = 3",
+            "\"wiki.toml\": module \"a\" is no table (12)",
+        ),
+        (
+            "modules.\"\" = 3",
+            "\"wiki.toml\": the module or the field \"\" is unknown or has a bad value (12)",
+        ),
         (
             "modules.a.x = 3",
-            "wiki.toml: module `a` has the field `x`, which is unknown or has a bad value (12)",
+            "\"wiki.toml\": module \"a\" has the field \"x\", which is unknown or has a bad value (12)",
+        ),
+        (
+            "[modules.\"a\\nb\"]",
+            "\"wiki.toml\": the name \"a\\nb\" breaks its rule (13)",
         ),
         (
             "modules.a.dependencies = [\"b\"]",
-            "wiki.toml: module `a` depends on `b`, which is no module (14)",
+            "\"wiki.toml\": module \"a\" depends on \"b\", which is no module (14)",
         ),
     ] {
-        assert_eq!(rt;
-            line_of_definitions(rt.alloc(), definitions)?.as_str(),
-            text
-        );
+        let mut files = Vec::new(alloc);
+        files.push((
+            Text::of(alloc, "wiki.toml")?,
+            Blob::of(alloc, definitions.as_bytes())?,
+        ))?;
+        let mut tree = MemTree::new(alloc, files, failing(alloc, &[1])?)?;
+        assert_eq!(rt; line(alloc, &words, &mut tree)?.as_str(), text);
     }
     Ok(())
 }
 
 #[test]
 fn what_a_person_reads(rt: HostRuntime) -> Result<(), Fail> {
-    for (status, text) in [
+    let alloc = rt.alloc();
+    for (words, script, text) in [
         (
-            Status::BadInput {
-                word: 1,
-                line: 3,
-                why: 1,
-            },
-            "chain.script, line 3: not a line of the grammar (1)",
+            ["drive", "a.script"],
+            "[\"using\",[]]\n[]",
+            "\"a.script\", line 2: not a line of the grammar (1)",
         ),
         (
-            Status::BadInput {
-                word: 1,
-                line: 0,
-                why: 4,
-            },
-            "chain.script: not UTF-8 (4)",
+            ["drive", "b\n\u{1b}\u{9b}\u{e4}.script"],
+            "",
+            "\"b\\n\\u001b\\u009b\u{e4}.script\": could not be read",
         ),
         (
-            Status::TooLarge {
-                what: Counted::Rows,
-                count: 4097,
-            },
-            "chain.script: 4097 rows, and there may be 4096",
+            ["play", "a.script"],
+            "",
+            "no command has these words; `loader --help` lists them",
         ),
-        (Status::ReadFault, "chain.script: could not be read"),
         (
-            Status::NotReady,
-            "chain.script: a request was refused, or a requested module is not ready",
+            ["drive", "a.script"],
+            "[\"using\",[\"zz\"]]",
+            "a request was refused, or a requested module is not ready",
         ),
-        (Status::NoMemory, "out of memory"),
     ] {
-        assert_eq!(rt; line(rt.alloc(), status)?.as_str(), text);
+        let mut tree = tree_of(alloc, "a.script", script.as_bytes())?;
+        assert_eq!(rt; line(alloc, &words, &mut tree)?.as_str(), text);
     }
+    Ok(())
+}
+
+/// The query is the word at fault, and its first 200 bytes are shown.
+#[test]
+fn what_is_told_of_a_query(rt: HostRuntime) -> Result<(), Fail> {
+    let alloc = rt.alloc();
+    let query = "\u{e4}".repeat(alloc, 8_193)?;
+    let words = ["load", "wiki.toml", "-", "-", query.as_str()];
+    let mut tree = tree_of(alloc, "wiki.toml", b"")?;
+    let shown = "\u{e4}".repeat(alloc, 100)?;
+    let text = format!(in alloc;
+        "\"{shown}\u{2026}\": 16386 bytes in the query, and there may be 16384"
+    )?;
+    assert_eq!(rt; line(alloc, &words, &mut tree)?, text);
     Ok(())
 }

@@ -1,3 +1,4 @@
+//! Queries that are answered, refused definitions, and answers that are too long.
 use super::tree_of;
 use crate::{Status, run};
 use rl_base::MemSink;

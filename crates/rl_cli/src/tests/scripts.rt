@@ -1,3 +1,4 @@
+//! Scripts that are printed, and scripts with a fault.
 use super::driven;
 use crate::Status;
 use std::test::Fail;
@@ -146,11 +147,11 @@ fn faulty(rt: HostRuntime) -> Result<(), Fail> {
         ("[\"row\",\"A\",\"aaaa\"]", bad(1, 1)),
         ("[\"row\",\"A\",null]", bad(1, 1)),
         ("[\"row\",\"A\",\"aaaaa\",null]", bad(1, 1)),
-        ("[\"row\",\"A\",\"aaaaa\",[],2]", bad(1, 1)),
+        ("[\"row\",\"A\",\"aaaaa\",[],1]", bad(1, 1)),
         ("[\"impl\",\"A\",\"a()\"]", bad(1, 1)),
-        ("[\"load\",[\"A\"]]", bad(1, 1)),
-        ("[\"state\",\"A\",\"missing\"]", bad(1, 1)),
-        ("[\"features\",[]]", bad(1, 1)),
+        ("[\"load\",\"A\"]", bad(1, 1)),
+        ("[\"state\",\"A\",\"ready\"]", bad(1, 1)),
+        ("[\"features\",null]", bad(1, 1)),
         ("[\"take\"]", bad(1, 1)),
         ("[\"using\",[]]\n[\"row\",\"A\",\"aaaaa\"]", bad(2, 3)),
         ("[\"using\",[]]\n[\"row\",\"A\"]", bad(2, 1)),

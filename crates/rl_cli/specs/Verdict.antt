@@ -1,0 +1,71 @@
+-- What a command makes of its files, before anything is written.
+use Rattle.std.specs.Prelude.{ℕ, List, [], true, slice_index_or, Option, Some, None, Result, Ok, Err, option_and_then}
+use Rattle.std.specs.Option.{option_map_or}
+use Rattle.rl_names.specs.declared.counted.Counted.{Counted}
+use Rattle.rl_names.specs.declared.counted.Counted.TheVariants as counted
+use Rattle.rl_names.specs.Rules.{number_of}
+use Rattle.rl_view_spec.specs.Closure.{Text}
+use Rattle.rl_script_spec.specs.Script as script
+use Rattle.rl_drive.specs.Drives.{never}
+use Rattle.rl_defs.specs.Breach.{reading}
+use Rattle.rl_defs.specs.Catalogue.{Catalogue}
+use Rattle.rl_defs.specs.Refusal as definitions
+use Rattle.rl_loadphp.specs.Answer.{answer_of}
+use Rattle.rl_loadphp.specs.Refusal as query
+use Rattle.rl_loadphp.specs.declared.answers.Answer.{Answer}
+use Rattle.rl_cli.specs.Words.{Command, Drive, Load}
+use Rattle.rl_cli.specs.declared.work.Printed.{Printed}
+use Rattle.rl_cli.specs.declared.work.WorkError.{WorkError}
+use Rattle.rl_cli.specs.declared.work.WorkError.TheVariants as errors
+
+-- The word of a file that breaks a rule, the line, where 0 stands for the file as a whole, the number of the rule, and of
+-- definitions what breaks it. Or the word at which there is more of something than its limit allows.
+pub data Fault : Type 0 where
+  Breaks : (word line why : ℕ) (breach : Option definitions.Refusal) → Fault
+  Exceeds : (word : ℕ) (what : Counted) (count : ℕ) → Fault
+
+-- an output, with whether every requested name is ready at the end, or a fault
+abbrev pub Verdict : Type 0
+Verdict = Result Printed Fault
+
+-- the fault that an error tells
+abbrev pub fault_told : WorkError → Option Fault
+fault_told (errors.Breaks word line why breach) = Some (Breaks word line why (option_and_then definitions.refusal_told breach))
+fault_told (errors.Exceeds word what count) = Some (Exceeds word what count)
+fault_told errors.NoMemory = None
+
+-- what a script comes to, which the word of this place names
+abbrev pub of_script : ℕ → script.Verdict → Verdict
+of_script place (script.Prints text ready) = Ok record { text = text; ready = ready }
+of_script place (script.BadLine line why) = Err (Breaks place line why None)
+of_script place (script.TooMany what count) = Err (Exceeds place what count)
+
+-- definitions are refused, which the word of this place names
+abbrev pub of_breach : ℕ → definitions.Refusal → Fault
+of_breach place (definitions.TooMany what count) = Exceeds place what count
+of_breach place breach = Breaks place 0 (option_map_or number_of (definitions.rule_broken breach) 0) (Some breach)
+
+-- a query is refused, which is the word of this place
+abbrev pub of_query : ℕ → query.Refusal → Fault
+of_query place (query.QueryTooLong len) = Exceeds place counted.QueryBytes len
+of_query place (query.TooManyNames count) = Exceeds place counted.Names count
+of_query place (query.AnswerTooLong len) = Exceeds place counted.AnswerBytes len
+
+-- what is sent for a query is printed
+abbrev pub of_answer : ℕ → Result Answer query.Refusal → Verdict
+of_answer place (Ok answer) = Ok record { text = answer.body; ready = true }
+of_answer place (Err refusal) = Err (of_query place refusal)
+
+-- bad definitions are answered before the query is looked at
+abbrev pub of_reading : Text → Result Catalogue definitions.Refusal → Verdict
+of_reading asked (Ok catalogue) = of_answer 4 (answer_of catalogue asked)
+of_reading asked (Err breach) = Err (of_breach 1 breach)
+
+-- the bytes of the file of this number, counted from 0
+abbrev pub file_at : List Text → ℕ → Text
+file_at files number = slice_index_or files number []
+
+-- what a command makes of the bytes of its files
+abbrev pub verdict_on : Command → List Text → Verdict
+verdict_on Drive files = of_script 1 (script.verdict_of never (file_at files 0))
+verdict_on (Load asked) files = of_reading asked (reading (file_at files 0))

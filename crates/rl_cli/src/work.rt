@@ -1,0 +1,137 @@
+//! What a command makes of the bytes of its files.
+ghost use Rattle.std.specs.Prelude.{◌≡◌, ◌<◌, length, option_map};
+ghost use Rattle.rl_names.specs.Meant.{Gives};
+ghost use Rattle.rl_script_spec.specs.Script.{verdict_of};
+ghost use Rattle.rl_drive.specs.Drives.{never};
+ghost use Rattle.rl_defs.specs.Breach.{reading};
+ghost use Rattle.rl_defs.specs.Refusal.{refusal_told as breach_told};
+ghost use Rattle.rl_loadphp.specs.Refusal.{refusal_told as query_told};
+ghost use Rattle.rl_cli.specs.Meant.{meant};
+ghost use Rattle.rl_cli.specs.Verdict.{fault_told, file_at, of_breach as fault_of_breach, of_query as fault_of_query, of_reading, of_script, verdict_on};
+ghost use Rattle.rl_cli.specs.Words.{files_of};
+
+use crate::words::Command;
+use rl_defs::{Catalog, CatalogError};
+use rl_drive::{DriveError, drive};
+use rl_loadphp::{AnswerError, answer};
+use rl_names::{Blob, Counted};
+use std::alloc::Global;
+
+/// What a command prints.
+#[derive(Drop)]
+pub struct Printed {
+    pub text: Blob,
+    /// Whether every requested name is ready at the end, where the command has requests.
+    pub ready: bool,
+}
+
+/// Why a command prints nothing.
+#[derive(Drop)]
+pub enum WorkError {
+    /// The file of this word breaks the rule of a number, in a line, where 0 stands for the file as a
+    /// whole. Of definitions it is told what breaks it.
+    Breaks {
+        word: u32,
+        line: u32,
+        why: u32,
+        breach: Option<CatalogError>,
+    },
+    /// There is more of something, at this word, than its limit allows.
+    Exceeds {
+        word: u32,
+        what: Counted,
+        count: u64,
+    },
+    NoMemory,
+}
+
+/// What a command makes of the bytes of its files, one for each of its places.
+pub fn work(alloc: Global, command: &Command, files: &[Blob]) -> Result<Printed, WorkError>
+    requires { length files.now ≡ length (files_of (meant command.now)) }
+    ensures { Gives fault_told result (verdict_on (meant command.now) files.now) }
+{
+    match command {
+        Command::Drive => play_script(alloc, bytes_of(files, 0), 1),
+        Command::Load { query } => load(alloc, bytes_of(files, 0), query),
+    }
+}
+
+/// The bytes of the file of a number, counted from 0.
+fn bytes_of(files: &[Blob], number: usize) -> &[u8]
+    requires { number < length files.now }
+    ensures { result.now ≡ file_at files.now number }
+{
+    files[number].as_bytes()
+}
+
+/// Plays a script, which the word of this place names.
+fn play_script(alloc: Global, bytes: &[u8], word: u32) -> Result<Printed, WorkError>
+    ensures { Gives fault_told result (of_script word (verdict_of never bytes.now)) }
+{
+    match drive(alloc, bytes) {
+        Ok(driven) => Ok(Printed {
+            text: Blob::from_vec(driven.text),
+            ready: driven.ready,
+        }),
+        Err(DriveError::BadInput { line, why }) => Err(WorkError::Breaks {
+            word,
+            line,
+            why,
+            breach: None,
+        }),
+        Err(DriveError::TooLarge { what, count }) => Err(WorkError::Exceeds { word, what, count }),
+        Err(DriveError::NoMemory) => Err(WorkError::NoMemory),
+    }
+}
+
+/// The fault of definitions, which the word of this place names.
+fn of_breach(word: u32, breach: CatalogError) -> WorkError
+    ensures { fault_told result ≡ option_map (fault_of_breach word) (breach_told breach) }
+{
+    match breach {
+        CatalogError::TooMany { what, count } => WorkError::Exceeds { word, what, count },
+        CatalogError::NoMemory => WorkError::NoMemory,
+        breach => {
+            let why = match breach.rule() {
+                Some(rule) => rule.number(),
+                None => 0,
+            };
+            WorkError::Breaks {
+                word,
+                line: 0,
+                why,
+                breach: Some(breach),
+            }
+        }
+    }
+}
+
+/// The fault of a query, which is the word of this place.
+fn of_query(word: u32, error: AnswerError) -> WorkError
+    ensures { fault_told result ≡ option_map (fault_of_query word) (query_told error) }
+{
+    let (what, count) = match error {
+        AnswerError::QueryTooLong { len } => (Counted::QueryBytes, len),
+        AnswerError::TooManyNames { count } => (Counted::Names, count),
+        AnswerError::AnswerTooLong { len } => (Counted::AnswerBytes, len),
+        AnswerError::NoMemory => return WorkError::NoMemory,
+    };
+    WorkError::Exceeds { word, what, count }
+}
+
+/// The body that answers a query, which is word 4, from definitions, which word 1 names.
+fn load(alloc: Global, definitions: &[u8], query: &str) -> Result<Printed, WorkError>
+    ensures { Gives fault_told result (of_reading query.now (reading definitions.now)) }
+{
+    let catalog = match Catalog::read(alloc, definitions) {
+        Ok(catalog) => catalog,
+        Err(breach) => return Err(of_breach(1, breach)),
+    };
+    match answer(alloc, &catalog, query.as_bytes()) {
+        Ok(answer) => Ok(Printed {
+            text: Blob::from_vec(answer.body.into_string().into_bytes()),
+            ready: true,
+        }),
+        Err(error) => Err(of_query(4, error)),
+    }
+}
