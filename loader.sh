@@ -1,19 +1,50 @@
 #!/bin/sh
-# Runs the program `loader` with the words given, in the folder of the caller. Where it is not built yet, or a source is
-# newer than it, it is built first: that proves each crate, which takes some minutes where none was proved before.
+# Runs the program `loader` with the words given, in the folder of the caller. Where it is not built yet, or something that
+# it rests on is newer (code, definitions, proofs), it is built first, which proves each crate.
+#
+#   ./loader.sh WORDS                the program, proved
+#   ./loader.sh --unproved WORDS     the program as it stands, within a minute: only compiled, with checks as it runs
 top=$(CDPATH='' cd -- "$(dirname -- "$0")" && pwd) || exit 1
 program=$top/crates/loader/out/loader
 
-is_built() {
-    [ -x "$program" ] && [ -z "$(find "$top"/crates/*/src -name '*.rt' -newer "$program" -print -quit)" ]
+# Runs the program as it stands, unproved: in a minute, where a first proof takes many.
+run_unproved() {
+    here=$PWD
+    set -- -- "$@"
+    for word in "$@"; do
+        [ ! -f "$word" ] || set -- --data "$word=$here/$word" "$@"
+    done
+    cd "$top/crates/loader" && exec rt try "$@"
 }
 
+# The log of `rt run` as one line of progress.
+progress() {
+    awk -v all="$1" '
+        /^rt: chose --jobs .* for / { crate = $NF; n++; show("") }
+        /^so far: / { show(": " $3 " of " $5 " functions") }
+        function show(more) { printf "\rloader.sh: proving %s (%d of %d)%-28s", crate, n, all, more; fflush() }
+        END { if (n) print "" }' >&2
+}
+
+is_built() {
+    [ -x "$program" ] && [ "$program" -nt "$top/crates.txt" ] && [ -z "$(find "$top/crates" \( -name out -o -name 'bench_*' \) -prune -o \
+        \( -name '*.rt' -o -name '*.antt' \) -newer "$program" -print -quit)" ]
+}
+
+if [ "${1-}" = --unproved ]; then
+    shift
+    run_unproved "$@"
+fi
+
 if ! is_built; then
-    echo "loader.sh: building the program; each crate is proved first" >&2
+    echo "loader.sh: the first run proves every crate: some 20 minutes on four processors, and none after that" >&2
+    echo "loader.sh: to look at once, unproved, stop this and put --unproved in front of the words" >&2
     log=$(mktemp) || exit 1
     # a program that is as it was is not written again, and would seem old for ever
     rm -f "$program"
-    if ! (cd "$top/crates/loader" && rt run -- --version) >"$log" 2>&1 || [ ! -x "$program" ]; then
+    crates=$(grep '^[a-z]' "$top/crates.txt" | grep -vc '^bench_')
+    (cd "$top/crates/loader" && rt run -- --version) 2>&1 | tee "$log" | progress "$crates"
+    if [ ! -x "$program" ]; then
         cat "$log" >&2
         rm -f "$log"
         echo "loader.sh: the program was not built" >&2
