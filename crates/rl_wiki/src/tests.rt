@@ -1,7 +1,4 @@
 //! What no clause says: worked examples on the built code, with ample memory.
-ghost use Rattle.std.specs.Prelude.{IfOk};
-ghost use Rattle.rl_pages.specs.Viewer.{IsViewer};
-
 use crate::{Desk, DeskChoiceError, DeskEditError, OpenError, Wiki};
 use rl_defs::Catalog;
 use rl_keeper::{Keeper, MemKeeper};
@@ -14,40 +11,54 @@ fn catalog(alloc: Global) -> Result<Catalog, Fail> {
     Ok(Catalog::read(alloc, b"[wiki]\nadmins = [\"Root\"]\n")?)
 }
 
-fn viewer(alloc: Global, name: &str) -> Result<Viewer, Fail>
-    ensures { IfOk result IsViewer }
-{
-    Ok(Viewer::read(alloc, name.as_bytes())?)
+/// What an edit by this user comes to.
+fn edited(
+    alloc: Global,
+    wiki: &mut Wiki,
+    by: &[u8],
+    title: &[u8],
+    base: u64,
+) -> Result<u64, EditError> {
+    let Ok(viewer) = Viewer::read(alloc, by) else {
+        return Err(EditError::NoMemory);
+    };
+    wiki.edit(&viewer, title, base, "text")
+}
+
+/// What a choice of this user comes to.
+fn chosen(alloc: Global, wiki: &mut Wiki, by: &[u8]) -> Result<u64, ChoiceError> {
+    let Ok(viewer) = Viewer::read(alloc, by) else {
+        return Err(ChoiceError::NoMemory);
+    };
+    wiki.set_choice(&viewer, "skin", "vector")
 }
 
 #[test]
-fn edit_refusals(rt: HostRuntime) -> Result<(), Fail> {
+fn edits_of_a_wiki(rt: HostRuntime) -> Result<(), Fail> {
     let alloc = rt.alloc();
     let mut wiki = Wiki::open(alloc, catalog(alloc)?)?;
-    let (root, ann) = (viewer(alloc, "Root")?, viewer(alloc, "Ann")?);
-    let nobody = viewer(alloc, "")?;
-    assert_eq!(rt; wiki.edit(&root, b"a|b", 0, ""), Err(EditError::BadTitle));
-    assert_eq!(rt;
-        wiki.edit(&nobody, b"Talk", 0, ""),
-        Err(EditError::NotAllowed)
-    );
-    assert_eq!(rt;
-        wiki.edit(&ann, b"MediaWiki:Common.js", 0, ""),
-        Err(EditError::NotAllowed)
-    );
-    assert_eq!(rt;
-        wiki.edit(&root, b"Talk", 5, ""),
-        Err(EditError::Conflict { current: 0 })
-    );
-    assert_eq!(rt; wiki.edit(&ann, b"User:Ann/common.js", 0, "ann()"), Ok(1));
-    assert_eq!(rt; wiki.set_choice(&ann, "skin", "vector"), Ok(2));
-    assert_eq!(rt;
-        wiki.set_choice(&nobody, "skin", "vector"),
-        Err(ChoiceError::NotAllowed)
-    );
-    assert_eq!(rt; wiki.revisions(), 2);
-    let title = Title::read(alloc, b"User:Ann/common.js")?;
-    assert_eq!(rt; wiki.pages().text_of(&title), Some(&b"ann()"[..]));
+    for (by, title, base, want) in [
+        (&b"Root"[..], &b"a|b"[..], 0, Err(EditError::BadTitle)),
+        (b"", b"Talk", 0, Err(EditError::NotAllowed)),
+        (b"Root", b"Talk", 5, Err(EditError::Conflict { current: 0 })),
+        (b"Ann", b"User:Ann/common.js", 0, Ok(1)),
+    ] {
+        let answer = edited(alloc, &mut wiki, by, title, base);
+        assert!(rt; answer == want);
+    }
+    Ok(())
+}
+
+#[test]
+fn choices_of_a_wiki(rt: HostRuntime) -> Result<(), Fail> {
+    let alloc = rt.alloc();
+    let mut wiki = Wiki::open(alloc, catalog(alloc)?)?;
+    let answer = chosen(alloc, &mut wiki, b"");
+    assert!(rt; answer == Err(ChoiceError::NotAllowed));
+    let answer = chosen(alloc, &mut wiki, b"Ann");
+    assert!(rt; answer == Ok(1));
+    assert!(rt; wiki.revisions() == 1 && wiki.pages().entry_count() == 1);
+    assert!(rt; wiki.catalog().admins().len() == 1);
     Ok(())
 }
 
@@ -59,46 +70,90 @@ fn choice(alloc: Global, key: &str) -> Result<Entry, Fail> {
     })
 }
 
+/// A desk over a keeper of these entries, whose calls of these numbers fail.
+fn opened(
+    alloc: Global,
+    entries: Vec<Entry>,
+    failing: Vec<u64>,
+) -> Result<Desk<MemKeeper>, OpenError> {
+    let Ok(catalog) = Catalog::read(alloc, b"[wiki]\nadmins = [\"Root\"]\n") else {
+        return Err(OpenError::NoMemory);
+    };
+    let keeper = MemKeeper::new(alloc, entries, failing)?;
+    match Desk::open(alloc, keeper, catalog) {
+        Ok(desk) => Ok(desk),
+        Err(turned) => Err(turned.why),
+    }
+}
+
 #[test]
-fn desks_that_do_not_open(rt: HostRuntime) -> Result<(), Fail> {
+fn a_keeper_that_fails(rt: HostRuntime) -> Result<(), Fail> {
     let alloc = rt.alloc();
-    let keeper = MemKeeper::new(alloc, Vec::new(alloc), vec![in alloc; 0]?)?;
-    let opened = Desk::open(alloc, keeper, catalog(alloc)?);
-    assert!(rt; matches!(opened, Err(turned) if turned.why == OpenError::Failed));
-    let entries = vec![in alloc; choice(alloc, "k")?, choice(alloc, "")?]?;
-    let keeper = MemKeeper::new(alloc, entries, Vec::new(alloc))?;
-    let opened = Desk::open(alloc, keeper, catalog(alloc)?);
-    assert!(rt; matches!(opened, Err(turned) if turned.why == OpenError::BadRecord { number: 2 }));
+    let desk = opened(alloc, Vec::new(alloc), vec![in alloc; 0]?);
+    assert!(rt; matches!(desk, Err(OpenError::Failed)));
     Ok(())
 }
 
 #[test]
-fn keeper_faults(rt: HostRuntime) -> Result<(), Fail> {
+fn an_entry_that_breaks_a_rule(rt: HostRuntime) -> Result<(), Fail> {
     let alloc = rt.alloc();
-    let ann = viewer(alloc, "Ann")?;
-    let keeper = MemKeeper::new(alloc, Vec::new(alloc), vec![in alloc; 1]?)?;
-    let Ok(mut desk) = Desk::open(alloc, keeper, catalog(alloc)?) else {
-        return Err(Fail::from(OpenError::Failed));
+    let entries = vec![in alloc; choice(alloc, "k")?, choice(alloc, "")?]?;
+    let desk = opened(alloc, entries, Vec::new(alloc));
+    assert!(rt; matches!(desk, Err(OpenError::BadRecord { number: 2 })));
+    Ok(())
+}
+
+/// What an edit by Ann comes to.
+fn desk_edited(alloc: Global, desk: &mut Desk<MemKeeper>, base: u64) -> Result<u64, DeskEditError> {
+    let Ok(viewer) = Viewer::read(alloc, b"Ann") else {
+        return Err(DeskEditError::NoMemory);
     };
-    assert_eq!(rt;
-        desk.edit(&ann, b"Talk", 0, "one"),
-        Err(DeskEditError::Failed)
-    );
-    assert_eq!(rt; (desk.revisions(), desk.fault_count()), (0, 1));
-    assert_eq!(rt; desk.edit(&ann, b"Talk", 0, "one"), Ok(1));
-    assert_eq!(rt;
-        desk.edit(&ann, b"Talk", 0, "two"),
-        Err(DeskEditError::Conflict { current: 1 })
-    );
-    assert_eq!(rt;
-        desk.set_choice(&ann, "", "v"),
-        Err(DeskChoiceError::BadKey)
-    );
-    assert_eq!(rt; desk.set_choice(&ann, "k", "v"), Ok(2));
-    assert_eq!(rt; desk.revision_of(&Title::read(alloc, b"Talk")?), 1);
+    desk.edit(&viewer, b"Talk", base, "text")
+}
+
+/// What a choice of Ann comes to.
+fn desk_chosen(
+    alloc: Global,
+    desk: &mut Desk<MemKeeper>,
+    key: &str,
+) -> Result<u64, DeskChoiceError> {
+    let Ok(viewer) = Viewer::read(alloc, b"Ann") else {
+        return Err(DeskChoiceError::NoMemory);
+    };
+    desk.set_choice(&viewer, key, "v")
+}
+
+/// The call that fails is the first append; what is refused or fails is not kept.
+#[test]
+fn edits_of_a_desk(rt: HostRuntime) -> Result<(), Fail> {
+    let alloc = rt.alloc();
+    let mut desk = opened(alloc, Vec::new(alloc), vec![in alloc; 1]?)?;
+    for (base, want) in [
+        (0, Err(DeskEditError::Failed)),
+        (0, Ok(1)),
+        (0, Err(DeskEditError::Conflict { current: 1 })),
+        (1, Ok(2)),
+    ] {
+        let answer = desk_edited(alloc, &mut desk, base);
+        assert!(rt; answer == want);
+    }
+    let title = Title::read(alloc, b"Talk")?;
+    assert!(rt; desk.revision_of(&title) == 2 && desk.fault_count() == 1);
+    Ok(())
+}
+
+#[test]
+fn a_desk_that_opens_again(rt: HostRuntime) -> Result<(), Fail> {
+    let alloc = rt.alloc();
+    let mut desk = opened(alloc, Vec::new(alloc), Vec::new(alloc))?;
+    let refused = desk_chosen(alloc, &mut desk, "");
+    assert!(rt; refused == Err(DeskChoiceError::BadKey));
+    let answer = desk_chosen(alloc, &mut desk, "k");
+    assert!(rt; answer == Ok(1));
+    assert!(rt; desk.revisions() == 1 && desk.pages().entry_count() == 1);
     let mut keeper = desk.close();
-    assert_eq!(rt; keeper.read_all()?.len(), 2);
-    // A desk opens again over what it kept.
-    assert!(rt; Desk::open(alloc, keeper, catalog(alloc)?).is_ok());
+    let entries = keeper.read_all()?;
+    let again = opened(alloc, entries, Vec::new(alloc))?;
+    assert!(rt; again.revisions() == 1 && again.catalog().admins().len() == 1);
     Ok(())
 }
