@@ -97,18 +97,28 @@ pub trait Hears: Drop {
     /// Whether one of them throws for a script that runs under a key. This never changes.
     ghost says: { Self → Key → List ℕ → Bool };
 
+    /// They are the same as others, in the same order.
+    ghost same: { Self → Self → Type 0 };
+
     /// Tells all of them, and answers whether one throws. Where there is no room for it, none is told.
     fn hear(&mut self, key: &Key, script: &[u8]) -> Result<bool, NoMemory>
         ensures told { OnOk result (told self.new ≡ map (told_of (key.now, script.now)) (told self.old)) }
         ensures refused { OnErr result (told self.new ≡ told self.old) }
         ensures threw { IfOk result (λ threw. threw ≡ says self.old key.now script.now) }
-        ensures fixed { (k : Key) (s : List ℕ) → says self.new k s ≡ says self.old k s };
+        ensures fixed { (k : Key) (s : List ℕ) → says self.new k s ≡ says self.old k s }
+        ensures same { (first : Self) → same first self.old → same first self.new };
 }
 
 impl Hears for Vec<Box<dyn Observer + Send>> {
     ghost told = { λ v. map (λ o. (Observer-box o).ran o.value) v.items };
 
     ghost says = { λ v k s. list_any (λ o. (Observer-box o).throws o.value k s) v.items };
+
+    ghost same = { λ first v. (map (λ o. o.ptr) v.items ≡ map (λ o. o.ptr) first.items)
+        × (map (λ o. o.vtable) v.items ≡ map (λ o. o.vtable) first.items)
+        × ((k : Key) (s : List ℕ)
+        → map (λ o. (Observer-box o).throws o.value k s) v.items
+        ≡ map (λ o. (Observer-box o).throws o.value k s) first.items) };
 
     fn hear(&mut self, key: &Key, script: &[u8]) -> Result<bool, NoMemory> {
         tell_each(self.as_mut_slice(), key, script)
