@@ -9,7 +9,8 @@ use Rattle.std.proofs.lemmas.Bool.Decides.{nat_tests}
 use Rattle.std.proofs.lemmas.List.Splits.{slice_split_first}
 use Rattle.rl_wire.specs.declared.part.Part.{Part}
 use Rattle.rl_wire.specs.Line.{IsInOrder, AreInOrder}
-use Rattle.rl_wire.specs.Arguments.{capped, is_line_end}
+use Rattle.rl_wire.specs.declared.error.WireError.TheVariants.{BadLine}
+use Rattle.rl_wire.specs.Arguments.{capped, is_line_end, line_told, TellsLine}
 use Rattle.rl_wire.specs.Reading.{part_in, and_more, said_by, of_lines, answer_of}
 use Rattle.rl_wire.proofs.LinesLemmas.{cut, from_first}
 
@@ -106,6 +107,11 @@ rest_of bytes back at is =
 
 pub next_number : (number next passed : ℕ) → number ≡ capped passed → next ≡ min (number + 1) 4294967295 → next ≡ capped (passed + 1)
 next_number number next passed same is = omega arith
+
+-- the number that a refusal of a bad line tells
+pub tells : {A : Type 0} (said : Result A ℕ) (number bad : ℕ) → said ≡ Err bad → number ≡ capped bad → (told : ℕ) → line_told (BadLine number) ≡ Some told
+    → TellsLine said told
+tells said number bad is fits told same = let e : told ≡ capped bad = cc in (bad, is, e)
 
 all_push : (parts : List Part) (part : Part) → AreInOrder parts → IsInOrder part → AreInOrder (parts ++ part ∷ [])
 all_push [] part all one = (one, tt)

@@ -1,6 +1,6 @@
 -- The arguments of a line, read as JSON.
 use Rattle.std.specs.Prelude.{ℕ, ◌+◌, ◌-◌, ◌==◌, ◌^◌, min, Bool, nat_le, if◌then◌else◌, List, [], ◌∷◌, ◌++◌, length, take}
-use Rattle.std.specs.Prelude.{drop, Option, Some, None, option_and_then, option_map, ◌≡◌, ⊤, Result, Err}
+use Rattle.std.specs.Prelude.{drop, Option, Some, None, option_and_then, option_map, ◌≡◌, Result, Err}
 use Rattle.std.specs.Str.{is_utf8}
 use Rattle.serde_json.specs.Data.{Data, Items, no_items, item}
 use Rattle.serde_json.specs.Read.{read}
@@ -35,7 +35,11 @@ is_line_end b = b == 10
 abbrev pub capped : ℕ → ℕ
 capped number = min number (2 ^ 32 - 1)
 
--- a refusal tells the bad line, as far as its number fits; want of memory may come in its place
-abbrev pub Refuses : {A : Type 0} → WireError → Result A ℕ → Type 0
-Refuses (BadLine number) said = (bad : ℕ) × (said ≡ Err bad) × (number ≡ capped bad)
-Refuses NoMemory said = ⊤
+-- the number that a refusal tells; want of memory tells none
+abbrev pub line_told : WireError → Option ℕ
+line_told (BadLine number) = Some number
+line_told NoMemory = None
+
+-- a number tells the bad line, as far as that one's number fits
+abbrev pub TellsLine : {A : Type 0} → Result A ℕ → ℕ → Type 0
+TellsLine said number = (bad : ℕ) × (said ≡ Err bad) × (number ≡ capped bad)

@@ -7,7 +7,8 @@ ghost use Rattle.serde_json.specs.View.{view, members_view};
 ghost use Rattle.serde_json.specs.Find.{as_str, as_object};
 ghost use Rattle.rl_wire.specs.Line.{part_text, wire_text, IsPart, IsInOrder, AreInOrder};
 ghost use Rattle.rl_wire.specs.Message.{AreAscending};
-ghost use Rattle.rl_wire.specs.Arguments.{list_in, arguments_in, first, is_line_end, Refuses};
+ghost use Rattle.rl_names.specs.Meant.{ButForMemory};
+ghost use Rattle.rl_wire.specs.Arguments.{list_in, arguments_in, first, is_line_end, line_told, TellsLine};
 ghost use Rattle.rl_wire.specs.Reading.{key_in, styles_in, messages_among, implementation_by, implementation_in, kind_named, state_by, state_in, candidate};
 ghost use Rattle.rl_wire.specs.Reading.{part_in, answer_of, LinesSayParts, AnswersSayParts};
 
@@ -315,8 +316,7 @@ fn push(parts: &mut Vec<Part>, part: Part) -> Result<(), NoMemory>
 
 /// The parts of an answer, or the first line that is no part's line with its end.
 pub fn read_answer(alloc: Global, bytes: &[u8]) -> Result<Vec<Part>, WireError>
-    ensures ok { IfOk result (λ v. answer_of bytes.now ≡ Ok v.items) }
-    ensures refused { IfErr result (λ e. Refuses e (answer_of bytes.now)) }
+    ensures answer { ButForMemory line_told (λ v. answer_of bytes.now ≡ Ok v.items) (TellsLine (answer_of bytes.now)) result }
 
     // The bytes are the text of what is read, whose messages are in order.
     ensures written { IfOk result (λ v. wire_text v.items ≡ bytes.now) }

@@ -1,7 +1,8 @@
 //! The startup text: the sources that modules come from, and the rows of the registry.
 ghost use Rattle.std.specs.Prelude.{◌≡◌, IfOk, IfErr, IfSome, Ok, option_map};
 ghost use Rattle.std.specs.List.{slice_split};
-ghost use Rattle.rl_wire.specs.Arguments.{is_line_end, Refuses};
+ghost use Rattle.rl_names.specs.Meant.{ButForMemory};
+ghost use Rattle.rl_wire.specs.Arguments.{is_line_end, line_told, TellsLine};
 ghost use Rattle.rl_wire.specs.Startup.{fits_group, is_empty, is_writable, startup_text, AreWritable, IsWritable};
 ghost use Rattle.rl_wire.specs.StartupReading.{rows_alone, startup_of, TextsSayStartups};
 
@@ -83,8 +84,7 @@ fn rows_alone(alloc: Global, bytes: &[u8]) -> Result<Option<Vec<Row>>, NoMemory>
 /// The startup whose text the bytes are. A first line that is not as one is written, or that has
 /// no end, is line 1; else, where the second line is not so or something stands behind it, line 2.
 pub fn read_startup(alloc: Global, bytes: &[u8]) -> Result<Startup, WireError>
-    ensures ok { IfOk result (λ s. startup_of bytes.now ≡ Ok s) }
-    ensures refused { IfErr result (λ e. Refuses e (startup_of bytes.now)) }
+    ensures answer { ButForMemory line_told (λ s. startup_of bytes.now ≡ Ok s) (TellsLine (startup_of bytes.now)) result }
 
     // The bytes are the text of what is read, which may be written.
     ensures written { IfOk result (λ s. startup_text s ≡ bytes.now) }
