@@ -1,3 +1,4 @@
+pub mod BoundLemmas
 pub mod CellsLemmas
 pub mod ChangesLemmas
 pub mod CostsLemmas
