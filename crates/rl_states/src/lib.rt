@@ -3,9 +3,9 @@
 
 ghost use Rattle.rl_states.specs.Bound.{StepsAreBounded};
 
+mod cell;
 mod cells;
 mod counted;
-mod mark;
 mod spoiled;
 mod standing;
 pub mod table;
