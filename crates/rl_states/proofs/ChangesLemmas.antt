@@ -363,6 +363,22 @@ none_counted p (s ∷ standings) h =
     let here : ◌≡◌ {A = ℕ} (cond (p s) 1 0) 0 = ap (λ (b : Bool). cond b 1 0) (h 0 s refl) in
     omega (arith, sum_by-cons (λ (x : Standing). cond (p x) 1 0) s standings, here, none_counted p standings (λ k x at. h (suc k) x at))
 
+pub spoiled_fresh : (r : Registered) → AreSpoiled (fresh_progress r) (replicate (length r.rows) false)
+spoiled_fresh r = record {
+  long = length-replicate (length r.rows) false;
+  spoils = record {
+    broken = λ row low b. absurd (both_ways (is_broken_at (fresh_progress r) row) (unbroken r row) b);
+    upward =
+        λ row need c b. absurd (both_ways (marked (replicate (length r.rows) false) need) (unmarked need) b);
+  };
+  least = λ test h row b. absurd (both_ways (marked (replicate (length r.rows) false) row) (unmarked row) b);
+}
+  where
+    unmarked : (row : ℕ) → marked (replicate (length r.rows) false) row ≡ false
+    unmarked row = ⊎_elim (λ lt. get_or-replicate (length r.rows) row false false lt)
+        (λ ge. get_or_past (replicate (length r.rows) false) row false (omega (arith, ge, length-replicate (length r.rows) false)))
+        (cases_lt row (length r.rows))
+
 pub kept_fresh : (r : Registered) (users : List (List ℕ)) → length r.rows ≤ 4096 → HasDistinctNames r → AreUsers r users →
     IsTable (fresh_progress r) (for_rows r (fresh r)) users (replicate (length r.rows) false)
 kept_fresh r users few distinct u = record {
@@ -380,26 +396,13 @@ kept_fresh r users few distinct u = record {
             (needs_of r row) (λ other c. ap (λ (b : Bool). not (nat_eq other row || b)) (done_fresh r other));
       };
   indexed = u;
-  spoiled = record {
-    long = length-replicate (length r.rows) false;
-    spoils = record {
-      broken = λ row low b. absurd (both_ways (is_broken_at (fresh_progress r) row) (unbroken r row) b);
-      upward =
-          λ row need c b. absurd (both_ways (marked (replicate (length r.rows) false) need) (unmarked need) b);
-    };
-    least = λ test h row b. absurd (both_ways (marked (replicate (length r.rows) false) row) (unmarked row) b);
-  };
+  spoiled = spoiled_fresh r;
   counted = sym (none_counted (λ s. s.ran) (for_rows r (fresh r)) (λ k s at. ap (λ (x : Standing). x.ran) (over_at (fresh r) (length r.rows) k s at).1));
   inside = λ row h. absurd (both_ways false refl h);
   after = λ row h. absurd (both_ways false refl h);
   running = tt;
 }
   where
-    unmarked : (row : ℕ) → marked (replicate (length r.rows) false) row ≡ false
-    unmarked row = ⊎_elim (λ lt. get_or-replicate (length r.rows) row false false lt)
-        (λ ge. get_or_past (replicate (length r.rows) false) row false (omega (arith, ge, length-replicate (length r.rows) false)))
-        (cases_lt row (length r.rows))
-
     cells : (fresh_progress r).cells ≡ map cell_of (for_rows r (fresh r))
     cells = same_places (fresh_progress r).cells (map cell_of (for_rows r (fresh r))) (λ k.
         slice_get-map (λ (found : Row). let c : Cell = record { touched = false; outcome = None } in c) r.rows k

@@ -1,10 +1,13 @@
+pub mod BoundLemmas
 pub mod CellsLemmas
 pub mod ChangesLemmas
 pub mod CostsLemmas
+pub mod CountedLemmas
 pub mod CreditLemmas
 pub mod NeedsLemmas
 pub mod PassingLemmas
 pub mod RunsLemmas
+pub mod SeenLemmas
 pub mod StandingsLemmas
 pub mod TablesLemmas
 pub mod UsersLemmas

@@ -13,7 +13,7 @@ use Rattle.rl_graph.specs.Marks.{IsClosed, Spreads}
 use Rattle.rl_graph.proofs.MarkingLemmas.{count_more, set_cases, set_here, set_keeps}
 use Rattle.rl_graph.proofs.SpreadingLemmas.{further}
 use Rattle.rl_graph.proofs.ToolsLemmas.{contains_cases, contains_head, contains_none, contains_one}
-use Rattle.rl_states.specs.declared.mark.Mark.{Mark}
+use Rattle.rl_states.specs.declared.cell.Mark.{Mark}
 use Rattle.rl_states.specs.Spoiled.{AreLinked, all_pushed, left, pushed, spoiled_in}
 use Rattle.rl_states.proofs.CostsLemmas.{left_set}
 use Rattle.rl_states.proofs.StandingsLemmas.{set_place}

@@ -1,8 +1,11 @@
 -- Rows in blocks of 64, each with how many of its rows may run.
-use Rattle.std.specs.Prelude.{◌≡◌, ℕ, ◌*◌, ◌/◌, ◌<◌, ◌≤◌, ◌==◌, ◌&&◌, List, false, length, count_by, slice_get, slice_index}
+use Rattle.std.specs.Prelude.{◌≡◌, ℕ, ◌*◌, ◌/◌, ◌<◌, ◌≤◌, ◌==◌}
+use Rattle.std.specs.Prelude.{◌&&◌, List, Bool, false, length, count_by, slice_get, slice_index}
 use Rattle.std.specs.Prelude.{Some}
 use Rattle.std.specs.List.{enumerate_from}
 use Rattle.rl_states.specs.declared.standing.Standing.{Standing}
+use Rattle.rl_states.specs.Counted.{Held}
+use Rattle.rl_states.specs.Spoiled.{spoiled_in}
 use Rattle.rl_states.specs.Standings.{may_run}
 
 -- how many rows of a block may run
@@ -19,3 +22,12 @@ pub record AreCounted (standings : List Standing) (runnable : List ℕ) : Type 0
 -- no row before this one may run
 abbrev pub IsNoneBefore : List Standing → ℕ → Type 0
 IsNoneBefore standings row = (other : ℕ) (standing : Standing) → other < row → slice_get standings other ≡ Some standing → may_run standing ≡ false
+
+-- what a table sees: how far rows have come, which rows need a row, and which cannot become ready
+pub record Seen : Type 0 where
+  pub standings : List Standing
+  pub users : List (List ℕ)
+  pub spoiled : List Bool
+
+abbrev pub seen_in : Held → Seen
+seen_in held = record { standings = held.standings; users = held.users; spoiled = spoiled_in held.marks }

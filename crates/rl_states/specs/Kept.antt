@@ -12,7 +12,7 @@ use Rattle.rl_states.specs.Users.{AreUsers}
 
 -- the progress of the rows
 abbrev pub progress_in : Inside → Progress
-progress_in t = record { registered = t.registry; cells = map cell_of t.standings; ran = zip t.log.items t.threw.items; executing = t.executing }
+progress_in t = record { registered = t.registry; cells = map cell_of t.cells.standings; ran = zip t.log.items t.threw.items; executing = t.executing }
 
 -- how many dependencies of a row other than itself are not done
 abbrev pub waits_of : Progress → ℕ → ℕ
@@ -66,7 +66,7 @@ pub record IsTable (t : Progress) (standings : List Standing) (users : List (Lis
 
 -- that, each row that ran with whether it threw, and room for each row
 pub record IsKept (t : Inside) : Type 0 where
-  pub table : IsTable (progress_in t) t.standings t.users t.spoiled
+  pub table : IsTable (progress_in t) t.cells.standings t.cells.users t.cells.spoiled
   pub paired : length t.threw.items ≡ length t.log.items
   pub room : length t.registry.rows ≤ vec_capacity t.log
   pub room_beside : length t.registry.rows ≤ vec_capacity t.threw

@@ -1,5 +1,7 @@
+pub mod Bound
 pub mod Cells
 pub mod Changes
+pub mod Counted
 pub mod Credit
 pub mod Kept
 pub mod Spoiled

@@ -3,7 +3,7 @@ use Rattle.std.specs.Prelude.{◌≡◌, ℕ, ◌+◌, ◌*◌, List, [], ◌∷
 use Rattle.std.specs.Prelude.{slice_get, slice_set, sum_by}
 use Rattle.std.specs.List.{enumerate_from}
 use Rattle.rl_graph.specs.Graph.{marked, next_in}
-use Rattle.rl_states.specs.declared.mark.Mark.{Mark}
+use Rattle.rl_states.specs.declared.cell.Mark.{Mark}
 
 -- which rows are spoiled
 abbrev pub spoiled_in : List Mark → List Bool

@@ -4,8 +4,7 @@ ghost use Rattle.rl_states.specs.Standings.{phase_by};
 ghost use Rattle.rl_view_spec.specs.Progress.{is_lost};
 
 use crate::cells::{Cells, release, touch_all};
-use crate::counted::{Steps, Users};
-use crate::spoiled::Spoiled;
+use crate::counted::Steps;
 use crate::standing::Standing;
 use rl_names::{NoMemory, Version};
 use rl_registry::Registry;
@@ -19,11 +18,8 @@ use std::sync::ledger::Ledger;
 pub struct Table {
     registry: Registry,
 
-    /// One for each row.
-    standings: Cells,
-
-    users: Users,
-    spoiled: Spoiled,
+    /// All that is counted.
+    cells: Cells,
 
     /// The rows that ran, in order, and for each whether it threw.
     log: Vec<u32>,
@@ -57,16 +53,12 @@ impl Table {
         ensures credit { IfOk result (λ table. credit table ≡ 64 * length registry.rows + 8 * entries registry) }
     {
         let count = registry.count();
-        let standings = Cells::open(alloc, &registry)?;
-        let users = Users::open(alloc, &registry)?;
-        let spoiled = Spoiled::open(alloc, count)?;
+        let cells = Cells::open(alloc, &registry)?;
         let log = Vec::with_capacity(alloc, count as usize)?;
         let threw = Vec::with_capacity(alloc, count as usize)?;
         Ok(Table {
             registry,
-            standings,
-            users,
-            spoiled,
+            cells,
             log,
             threw,
             executing: None,
@@ -95,14 +87,14 @@ impl Table {
         ensures value { self.new ≡ after_touch rows.now self.old }
         ensures cost { steps.new + credit self.new ≤ steps.old + credit self.old + 8 * length rows.now + 8 }
     {
-        touch_all(&mut self.standings, rows, steps);
+        touch_all(&mut self.cells, rows, steps);
     }
 
     /// Whether a row was requested.
     pub fn touched(&self, row: u32) -> bool
         ensures { result ≡ is_touched_at self.now row }
     {
-        match self.standings.peek(row) {
+        match self.cells.peek(row) {
             Some(standing) => standing.touched,
             None => false,
         }
@@ -117,12 +109,12 @@ impl Table {
         ensures value { self.new ≡ after_outcome row outcome self.old }
         ensures cost { steps.new + credit self.new ≤ steps.old + credit self.old + 8 }
     {
-        let old = self.standings.at(row, steps);
+        let old = self.cells.at(row, steps);
         let mut standing = old;
         standing.outcome = Some(outcome);
-        self.standings.set(row, &old, standing, steps);
+        self.cells.set(row, &old, standing, steps);
         if is_lost(outcome) {
-            self.spoiled.add(&self.users, row, steps);
+            self.cells.spoil(row, steps);
         }
     }
 
@@ -130,7 +122,7 @@ impl Table {
     pub fn has_outcome(&self, row: u32) -> bool
         ensures { result ≡ is_some (outcome_at self.now row) }
     {
-        match self.standings.peek(row) {
+        match self.cells.peek(row) {
             Some(standing) => standing.outcome.is_some(),
             None => false,
         }
@@ -141,7 +133,7 @@ impl Table {
         ensures value { result ≡ next_row self.now }
         ensures cost { steps.new ≤ steps.old + 160 }
     {
-        match self.standings.first(steps) {
+        match self.cells.first(steps) {
             Some(row) => Some(row as u32),
             None => None,
         }
@@ -169,15 +161,15 @@ impl Table {
         self.log.push(row).unwrap();
         self.threw.push(threw).unwrap();
         self.executing = None;
-        let old = self.standings.at(row, steps);
+        let old = self.cells.at(row, steps);
         let mut standing = old;
         standing.ran = true;
         standing.done = !threw;
-        self.standings.set(row, &old, standing, steps);
+        self.cells.set(row, &old, standing, steps);
         if threw {
-            self.spoiled.add(&self.users, row, steps);
+            self.cells.spoil(row, steps);
         } else {
-            release(&mut self.standings, &self.users, row, steps);
+            release(&mut self.cells, row, steps);
         }
     }
 
@@ -185,7 +177,7 @@ impl Table {
     pub fn has_run(&self, row: u32) -> bool
         ensures { result ≡ has_run self.now row }
     {
-        match self.standings.peek(row) {
+        match self.cells.peek(row) {
             Some(standing) => standing.ran,
             None => false,
         }
@@ -200,8 +192,8 @@ impl Table {
         if self.executing == Some(row) {
             return Phase::Executing;
         }
-        match self.standings.peek(row) {
-            Some(standing) => resting_phase(&standing, self.spoiled.has(row)),
+        match self.cells.peek(row) {
+            Some(standing) => resting_phase(&standing, self.cells.is_spoiled(row)),
             None => Phase::Registered,
         }
     }

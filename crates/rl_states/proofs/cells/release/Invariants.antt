@@ -5,6 +5,9 @@ use Rattle.rl_states.proofs.cells.release.Given as goal
 
 abbrev pub invariant-loop-place : goal.invariant-loop-place
 invariant-loop-place g l = record {
-  value : l.cells ≡ by_place (release_at (take l.place (next_in l.users l.row))) l.initial.cells;
+  value : l.cells ≡ record l.initial.cells {
+    standings = by_place (release_at (take l.place (next_in l.initial.cells.users l.row)))
+        l.initial.cells.standings;
+  };
   cost : l.steps ≤ l.initial.steps + 5 * l.place;
 }

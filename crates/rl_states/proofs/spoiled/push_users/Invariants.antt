@@ -5,8 +5,8 @@ use Rattle.rl_states.proofs.spoiled.push_users.Given as goal
 
 abbrev pub invariant-loop-place : goal.invariant-loop-place
 invariant-loop-place g l = record {
-  marks : l.marks ≡ (all_pushed (l.initial.marks, l.fn.head) (take l.place (next_in l.users l.row))).0;
-  head : l.first ≡ (all_pushed (l.initial.marks, l.fn.head) (take l.place (next_in l.users l.row))).1;
-  long : length l.marks ≡ length l.initial.marks;
+  value : l.held ≡ record l.initial.held { marks = (all_pushed (l.initial.held.marks, l.fn.head) (take l.place (next_in l.initial.held.users l.row))).0 };
+  head : l.first ≡ (all_pushed (l.initial.held.marks, l.fn.head) (take l.place (next_in l.initial.held.users l.row))).1;
+  long : length l.held.marks ≡ length l.initial.held.marks;
   cost : l.steps ≤ l.initial.steps + 3 * l.place;
 }

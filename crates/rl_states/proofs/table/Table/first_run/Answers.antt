@@ -8,17 +8,19 @@ use Rattle.rl_states.proofs.table.Table.first_run.Goals as goal
 pub overflow_cast-result : goal.overflow_cast-result
 overflow_cast-result g c = omega (
   arith,
-  first_low c.self.inside.standings c.in-Some.row c.in-Some.ensures.value,
+  first_low c.self.inside.cells.standings c.in-Some.row c.in-Some.ensures.value,
   c.self.invariant.table.few,
   c.self.invariant.table.long,
 )
 
 pub returns-in-Some-clause-value : goal.returns-in-Some-clause-value
 returns-in-Some-clause-value g c =
-    c.in-Some.ensures.value ∙ next_is (progress_in c.self.inside) c.self.inside.standings c.self.inside.users c.self.inside.spoiled c.self.invariant.table
+    c.in-Some.ensures.value ∙ next_is (progress_in c.self.inside) c.self.inside.cells.standings c.self.inside.cells.users
+    c.self.inside.cells.spoiled c.self.invariant.table
     ∙ ap next_row c.self.view_is
 
 pub returns-in-None-clause-value : goal.returns-in-None-clause-value
 returns-in-None-clause-value g c =
-    c.in-None.ensures.value ∙ next_is (progress_in c.self.inside) c.self.inside.standings c.self.inside.users c.self.inside.spoiled c.self.invariant.table
+    c.in-None.ensures.value ∙ next_is (progress_in c.self.inside) c.self.inside.cells.standings c.self.inside.cells.users
+    c.self.inside.cells.spoiled c.self.invariant.table
     ∙ ap next_row c.self.view_is

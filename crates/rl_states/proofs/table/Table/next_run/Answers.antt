@@ -14,7 +14,8 @@ fewer t (Some row) standings users marks k e = fewer_ran t standings users marks
 
 pub invariant_of-self : goal.invariant_of-self
 invariant_of-self g c = record {
-  table = kept_next (progress_in c.self.inside) c.first_run-row.result c.self.inside.standings c.self.inside.users c.self.inside.spoiled c.self.invariant.table
+  table = kept_next (progress_in c.self.inside) c.first_run-row.result c.self.inside.cells.standings c.self.inside.cells.users
+      c.self.inside.cells.spoiled c.self.invariant.table
       (c.first_run-row.ensures.value ∙ ap next_row (sym c.self.view_is));
   paired = c.self.invariant.paired;
   room = c.self.invariant.room;
@@ -24,5 +25,6 @@ invariant_of-self g c = record {
 pub returns-clause-fewer : goal.returns-clause-fewer
 returns-clause-fewer g c =
     subst (λ (t : Progress). IfSome c.first_run-row.result (λ row. length t.ran < length t.registered.rows)) c.self.view_is
-    (fewer (progress_in c.self.inside) c.first_run-row.result c.self.inside.standings c.self.inside.users c.self.inside.spoiled c.self.invariant.table
+    (fewer (progress_in c.self.inside) c.first_run-row.result c.self.inside.cells.standings c.self.inside.cells.users
+    c.self.inside.cells.spoiled c.self.invariant.table
     (c.first_run-row.ensures.value ∙ ap next_row (sym c.self.view_is)))

@@ -18,9 +18,11 @@ invariant_of-self c =
     ap (λ (r : Registered). length r.rows) c.set_version.ensures
     ∙ (version_alike c.self.inside.registry c.args.row c.args.version c.self.invariant.table.distinct).long in
     record {
-      table = subst (λ (r : Registered). IsTable (record t { registered = r }) c.self.inside.standings c.self.inside.users c.self.inside.spoiled)
+      table = subst (λ (r : Registered). IsTable (record t { registered = r }) c.self.inside.cells.standings c.self.inside.cells.users
+          c.self.inside.cells.spoiled)
           (sym c.set_version.ensures)
-          (kept_alike t (with_version c.self.inside.registry c.args.row c.args.version) c.self.inside.standings c.self.inside.users c.self.inside.spoiled
+          (kept_alike t (with_version c.self.inside.registry c.args.row c.args.version) c.self.inside.cells.standings
+          c.self.inside.cells.users c.self.inside.cells.spoiled
           (version_alike c.self.inside.registry c.args.row c.args.version c.self.invariant.table.distinct) c.self.invariant.table);
       paired = c.self.invariant.paired;
       room = omega (arith, long, c.self.invariant.room);
@@ -38,8 +40,9 @@ returns-clause-credit c =
     let t : Progress = progress_in c.self.inside in
     let alike = version_alike c.self.inside.registry c.args.row c.args.version c.self.invariant.table.distinct in
     ap (λ (r : Registered). credit (record t { registered = r })) c.set_version.ensures
-    ∙ credit_alike t (with_version c.self.inside.registry c.args.row c.args.version) c.self.inside.spoiled alike c.self.invariant.table.distinct
+    ∙ credit_alike t (with_version c.self.inside.registry c.args.row c.args.version) c.self.inside.cells.spoiled alike c.self.invariant.table.distinct
     c.self.invariant.table.spoiled
-    (kept_alike t (with_version c.self.inside.registry c.args.row c.args.version) c.self.inside.standings c.self.inside.users c.self.inside.spoiled alike
+    (kept_alike t (with_version c.self.inside.registry c.args.row c.args.version) c.self.inside.cells.standings c.self.inside.cells.users
+    c.self.inside.cells.spoiled alike
     c.self.invariant.table).spoiled
     ∙ ap credit c.self.view_is
