@@ -3,6 +3,8 @@
 
 pub mod index;
 pub mod rows;
+#[cfg(test)]
+mod tests;
 
 pub use index::{find, index_of, least_repeated, lesser};
 pub use rows::{all_edges, dep_name, first_bad_index, first_wide, skips_of};
