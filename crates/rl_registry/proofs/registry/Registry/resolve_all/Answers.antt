@@ -51,9 +51,9 @@ returns-in-Some c =
     let rows : c.in_ok-rows.rows.items ≡ closure_numbers c.args.self.now c.args.names.now =
     rows_are c.args.self.now c.args.names.now c.in_ok-marks.marks.items c.as_slice.result.now c.in_ok-rows.rows.items c.as_slice.ensures.value
     c.in_ok-marks.ensures c.in_ok-rows.ensures in
-    refuses_unknown c.args.self.now c.args.names.now c.in_ok-name.name distinct
+    λ refusal told. refuses_unknown c.args.self.now c.args.names.now c.in_ok-name.name distinct
     (looked_through c.args.self.now c.args.names.now c.in_ok-rows.rows.items c.as_slice-2.result.now (Some c.in_ok-name.name) c.as_slice-2.ensures.value rows
-    (ap (λ (x : Text). Some x) c.in_ok-name.ensures ∙ c.in-Some.ensures))
+    (ap (λ (x : Text). Some x) c.in_ok-name.ensures ∙ c.in-Some.ensures)) ∙ told
 
 pub returns-then-ranks_fall : goal.returns-then-ranks_fall
 returns-then-ranks_fall c =
@@ -87,7 +87,8 @@ returns-in-Some-2 c =
     subst (λ (o : Option ℕ). IsLeastRow c.args.self.now (loops c.args.self.now c.as_slice-6.result.now) o) c.in-Some-2.is c.in_ok-row.ensures in
     let named : c.in_ok-name-in-Some-2.name ≡ name_at c.args.self.now c.in-Some-2.row =
     c.in_ok-name-in-Some-2.ensures ∙ c.as_str.ensures ∙ sym (name_there c.args.self.now c.in-Some-2.row c.row_at.result.now c.row_at.ensures) in
-    refuses_cycle c.args.self.now c.args.names.now c.as_slice-6.result.now c.in-Some-2.row distinct known m l ∙ ap (λ (x : Text). Some (Cycle x)) (sym named)
+    λ refusal told. refuses_cycle c.args.self.now c.args.names.now c.as_slice-6.result.now c.in-Some-2.row distinct known m l
+    ∙ ap (λ (x : Text). Some (Cycle x)) (sym named) ∙ told
 
 pub returns : goal.returns
 returns c =
