@@ -1,5 +1,5 @@
 -- The verdict on a script, from what its parts answer.
-use Rattle.std.proofs.Common.{◌≡◌, ℕ, List, Bool, Option, Some, None, Err, ap, ap₂, sym, ◌∙◌, reverse}
+use Rattle.std.proofs.Common.{◌≡◌, ℕ, List, Bool, Option, Some, None, Err, refl, ap, ap₂, sym, ◌∙◌, reverse}
 use Rattle.std.specs.declared.alloc.Global.{Global}
 use Rattle.std.specs.Prelude.{Vec, if◌then◌else◌, option_map}
 use Rattle.std.specs.Option.{option_map_or}
@@ -11,6 +11,7 @@ use Rattle.rl_names.specs.declared.counted.Counted.TheVariants as counted
 use Rattle.rl_names.specs.declared.rule.Rule.TheVariants as rules
 use Rattle.rl_names.specs.declared.row.Row.{Row}
 use Rattle.rl_view_spec.specs.Breach.{Breach, breach_of}
+use Rattle.rl_view_spec.specs.Breach as breach
 use Rattle.rl_view_spec.specs.Closure.{Text, Registered}
 use Rattle.rl_registry.specs.Answered.{Registers}
 use Rattle.rl_registry.specs.declared.error.RegistryError.{RegistryError}
@@ -75,13 +76,16 @@ pub no_registry : (bytes : Text) (r : Registered) (error : RegistryError) → Is
     → Concludes (Err (of_registry error)) (verdict_of never bytes)
 no_registry bytes r (bad.TooMany what count) valid none are broken = λ refusal p.
     told (TooMany what count) refusal (verdict_of never bytes) p
-    (of_lines bytes r valid none are ∙ ap (λ (breach : Option Breach). option_map_or breach_verdict breach (printed never bytes)) broken)
+    (of_lines bytes r valid none are ∙ ap (λ (breach : Option Breach). option_map_or breach_verdict breach (printed never bytes))
+    (broken (breach.TooMany what count) refl))
 no_registry bytes r (bad.Duplicate name) valid none are broken = λ refusal p.
     told (BadLine 0 (number_of rules.Duplicate)) refusal (verdict_of never bytes) p
-    (of_lines bytes r valid none are ∙ ap (λ (breach : Option Breach). option_map_or breach_verdict breach (printed never bytes)) broken)
+    (of_lines bytes r valid none are ∙ ap (λ (breach : Option Breach). option_map_or breach_verdict breach (printed never bytes))
+    (broken (breach.Duplicate name) refl))
 no_registry bytes r (bad.BadIndex row index) valid none are broken = λ refusal p.
     told (BadLine 0 (number_of rules.BadIndex)) refusal (verdict_of never bytes) p
-    (of_lines bytes r valid none are ∙ ap (λ (breach : Option Breach). option_map_or breach_verdict breach (printed never bytes)) broken)
+    (of_lines bytes r valid none are ∙ ap (λ (breach : Option Breach). option_map_or breach_verdict breach (printed never bytes))
+    (broken (breach.BadIndex row index) refl))
 no_registry bytes r bad.NoMemory valid none are broken = λ refusal p. absurd (cc)
 
 -- a script that was played

@@ -1,15 +1,16 @@
 -- A player and the history that it has played.
-use Rattle.std.specs.Prelude.{◌≡◌, ◌++◌, ◌∷◌, ◌<◌, ◌&&◌, ℕ, List, false, if◌then◌else◌, Option, Some, None, Result, Ok, Err}
+use Rattle.std.specs.Prelude.{◌≡◌, ◌++◌, ◌∷◌, ◌<◌, ◌&&◌, ℕ, List, false, if◌then◌else◌, Option, Some, None, Result}
 use Rattle.std.specs.Prelude.{drop, length}
-use Rattle.rl_view_spec.specs.Closure.{Text, Registered, Unknown, Cycle, refusal_of}
+use Rattle.rl_names.specs.Meant.{ButForMemory}
+use Rattle.rl_view_spec.specs.Closure.{Text, Registered, refusal_of}
 use Rattle.rl_view_spec.specs.Keys.{script_of}
 use Rattle.rl_view_spec.specs.Numbers.{closure_numbers}
 use Rattle.rl_view_spec.specs.Progress.{next_row}
 use Rattle.rl_view_spec.specs.Requests.{answer_alone, request}
 use Rattle.rl_view_spec.specs.View.{Event, Answer, log_of}
 use Rattle.rl_view_spec.specs.declared.Outcome.TheVariants as outcome
+use Rattle.rl_registry.specs.Answered.{refusal_told}
 use Rattle.rl_registry.specs.declared.error.ResolveError.{ResolveError}
-use Rattle.rl_registry.specs.declared.error.ResolveError.TheVariants as unresolved
 use Rattle.rl_script_spec.specs.Output.{event_of, events_of, line, reply_line, reply_to}
 use Rattle.rl_script_spec.specs.declared.Step.{Step}
 use Rattle.rl_states.specs.Changes.{after_outcome, after_ran}
@@ -57,10 +58,8 @@ pub record Requested (names : List Text) (old new : Player) : Type 0 where
 
 -- where they are refused nothing changes
 abbrev pub Requests : Result (Unit {0}) ResolveError → List Text → Player → Player → Type 0
-Requests (Ok done) names old new = Requested names old new
-Requests (Err (unresolved.Unknown name)) names old new = (refusal_of old.table.registered names ≡ Some (Unknown name)) × Stays old new
-Requests (Err (unresolved.Cycle name)) names old new = (refusal_of old.table.registered names ≡ Some (Cycle name)) × Stays old new
-Requests (Err unresolved.NoMemory) names old new = Unit {0}
+Requests result names old new =
+    ButForMemory refusal_told (λ _. Requested names old new) (λ refusal. (refusal_of old.table.registered names ≡ Some refusal) × Stays old new) result
 
 -- it takes in a step, and adds the reply to it
 pub record TakesIn (step : Step) (old new : Player) (out out' : Text) : Type 0 where

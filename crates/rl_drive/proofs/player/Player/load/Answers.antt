@@ -1,4 +1,4 @@
-use Rattle.std.proofs.Common.{◌≡◌, ◌-◌, ◌∙◌, ◌++◌, ℕ, [], List, Some, ap, subst, length, append-nil, arith}
+use Rattle.std.proofs.Common.{◌≡◌, refl, ◌-◌, ◌∙◌, ◌++◌, ℕ, [], List, Some, ap, subst, length, append-nil, arith}
 use Rattle.std.specs.Prelude.{codes, decimal}
 use Rattle.std.proofs.lemmas.Result.{on_ok_weaker}
 use Rattle.rl_view_spec.specs.Closure.{Cycle, Text, Unknown, refusal_of}
@@ -9,14 +9,14 @@ use Rattle.rl_drive.proofs.player.Player.load.Goals as goal
 
 pub unreachable-requires : goal.unreachable-requires
 unreachable-requires c =
-    let e = rw c.in-Err-Unknown.field-0-is at c.in-Err-Unknown.ensures in
+    let e = (rw c.in-Err-Unknown.field-0-is at c.in-Err-Unknown.ensures) (Unknown c.in-Err-Unknown.field-0-0) refl in
     none_refused c.args.self.now.table.registered c.args.names.now (Unknown c.in-Err-Unknown.field-0-0)
     (subst (λ (names : List Text). refusal_of c.args.self.now.table.registered names ≡ Some (Unknown c.in-Err-Unknown.field-0-0))
     (c.as_slice.ensures.value ∙ c.in_ok-accepted.ensures) e.0)
 
 pub unreachable-requires-in-Err-Cycle : goal.unreachable-requires-in-Err-Cycle
 unreachable-requires-in-Err-Cycle c =
-    let e = rw c.in-Err-Cycle.field-0-is at c.in-Err-Cycle.ensures in
+    let e = (rw c.in-Err-Cycle.field-0-is at c.in-Err-Cycle.ensures) (Cycle c.in-Err-Cycle.field-0-0) refl in
     none_refused c.args.self.now.table.registered c.args.names.now (Cycle c.in-Err-Cycle.field-0-0)
     (subst (λ (names : List Text). refusal_of c.args.self.now.table.registered names ≡ Some (Cycle c.in-Err-Cycle.field-0-0))
     (c.as_slice.ensures.value ∙ c.in_ok-accepted.ensures) e.0)
