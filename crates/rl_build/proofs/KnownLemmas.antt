@@ -1,8 +1,9 @@
 -- What is chosen where a name is among those that are known.
-use Rattle.std.proofs.Common.{◌≡◌, ℕ, ◌<◌, true, cond, List, length, get_or, bytes_eq, refl, sym, ap, ◌∙◌}
+use Rattle.std.proofs.Common.{◌≡◌, ℕ, ◌<◌, Bool, true, false, cond, List, [], ◌∷◌, length, get_or, find, Option, Some, bytes_eq, refl, sym, ap, subst, ◌∙◌}
 use Rattle.std.specs.List.{list_any}
 use Rattle.std.proofs.lemmas.List.Folds.{list_any_at}
 use Rattle.std.proofs.lemmas.Slice.Eq.{bytes_eq-Decides}
+use Rattle.rl_defs.specs.declared.module_def.ModuleDef.{ModuleDef}
 
 pub found : {X : Type 0} (key : X → List ℕ) (xs ys : List X) (i : ℕ) (x : X) (name absent : List ℕ)
     → xs ≡ ys → i < length xs → x ≡ get_or xs i x → key x ≡ name → cond (list_any (λ y. bytes_eq (key y) name) ys) name absent ≡ name
@@ -10,3 +11,14 @@ found key xs ys i x name absent these within is named =
     let passes : bytes_eq (key (get_or xs i x)) name ≡ true = (bytes_eq-Decides (key (get_or xs i x)) name).1 (ap key (sym is) ∙ named) in
     let there : list_any (λ y. bytes_eq (key y) name) xs ≡ true = list_any_at (λ y. bytes_eq (key y) name) xs i x within passes in
     rw (← these) (rw there refl)
+
+-- what is found has the name that was looked for
+found_step : (v : Bool) (m : ModuleDef) (rest : Option ModuleDef) (n : List ℕ) (o : ModuleDef) → bytes_eq m.name n ≡ v
+    → (rest ≡ Some o → o.name ≡ n) → cond v (Some m) rest ≡ Some o → o.name ≡ n
+found_step true m rest n o e later is = let same : m ≡ o = cc in subst (λ (x : ModuleDef). x.name ≡ n) same ((bytes_eq-Decides m.name n).0 e)
+found_step false m rest n o e later is = later is
+
+pub found_name : (ms : List ModuleDef) (n : List ℕ) (o : ModuleDef) → find (λ (m : ModuleDef). bytes_eq m.name n) ms ≡ Some o → o.name ≡ n
+found_name [] n o is = absurd (cc)
+found_name (m ∷ ms) n o is =
+    found_step (bytes_eq m.name n) m (find (λ (x : ModuleDef). bytes_eq x.name n) ms) n o refl (found_name ms n o) is
