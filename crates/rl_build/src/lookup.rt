@@ -14,6 +14,7 @@ use rl_defs::{Catalog, ModuleDef};
 use rl_names::{Name, NoMemory, Seq, Text};
 use std::alloc::Global;
 
+#[tactic(auto, using(crate::proofs::KnownLemmas::named_lawfully))]
 fn module_of<'a>(catalog: &'a Catalog, name: &[u8]) -> Option<&'a ModuleDef>
     ensures value { option_map (λ m. m.now) result ≡ module_named catalog.now name.now }
     ensures name { IfSome result (λ _. IsTrue (is_name name.now)) }
@@ -98,6 +99,7 @@ fn payload_of_module(
 }
 
 /// What a name brings, or none where it has no sheet.
+#[tactic(auto, using(crate::proofs::KnownLemmas::brought))]
 pub fn payload(
     alloc: Global,
     catalog: &Catalog,

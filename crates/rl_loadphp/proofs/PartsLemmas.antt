@@ -1,5 +1,5 @@
 -- What is said of names is lawful parts.
-use Rattle.std.proofs.Common.{◌≡◌, ℕ, ◌≤◌, List, [], ◌∷◌, ◌++◌, length, drop, map, Option, Some, None, IfSome, IsTrue, IsUtf8, refl, sym, subst}
+use Rattle.std.proofs.Common.{◌≡◌, ℕ, ◌≤◌, List, [], ◌∷◌, ◌++◌, length, drop, map, Option, Some, None, option_map, IfSome, IsTrue, IsUtf8, refl, sym, subst}
 use Rattle.std.specs.List.{AllByRecursion, filter_map, cons_option}
 use Rattle.rl_names.specs.Name.{is_version}
 use Rattle.rl_wire.specs.declared.part.Part.{Part}
@@ -15,6 +15,12 @@ use Rattle.rl_loadphp.specs.Body.{built, implementation_of, missing_part, parts_
 pub part_built : (name : List ℕ) (p : Payload) (version : List ℕ) → version ≡ version_of p → IsTrue (is_version version) → IsBrought name p →
     IsPart (built name p)
 part_built name p version is lawful brought = (brought.0, subst (λ v. IsTrue (is_version v)) is lawful, brought.1, brought.2, brought.3, brought.4)
+
+pub implementation_part : (o : Option Payload) (name : List ℕ) (p : Payload) (version : List ℕ) → o ≡ Some p → version ≡ version_of p →
+    IsTrue (is_version version) → IsBrought name p → IfSome (option_map (built name) o) IsPart
+implementation_part o name p version brings is lawful brought =
+    let P : Option Payload → Type 0 = λ o. IfSome (option_map (built name) o) IsPart in
+    subst P (sym brings) (part_built name p version is lawful brought)
 
 both : {X : Type 0} (P : X → Type 0) (xs ys : List X) → AllByRecursion P xs → AllByRecursion P ys → AllByRecursion P (xs ++ ys)
 both P [] ys a b = b
@@ -37,7 +43,7 @@ states (name ∷ names) all = (all.0, states names all.1)
 pub all_parts : (c : Catalogue) (ctx : Context) (items served others missing : List (List ℕ)) (i : ℕ) → items ≡ served → others ≡ missing →
     length items ≤ i
     → (AllByRecursion (λ (name : List ℕ). IfSome (implementation_of c ctx name) IsPart) (drop i items)
-      → AllByRecursion (λ (name : List ℕ). IfSome (implementation_of c ctx name) IsPart) items)
+    → AllByRecursion (λ (name : List ℕ). IfSome (implementation_of c ctx name) IsPart) items)
     → AllByRecursion IsUtf8 others → AllByRecursion IsPart (parts_of c ctx served missing)
 all_parts c ctx items served others missing i same same_too end all utf8 =
     let P : List ℕ → Type 0 = λ name. IfSome (implementation_of c ctx name) IsPart in

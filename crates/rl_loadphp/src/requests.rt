@@ -74,6 +74,7 @@ fn aged(told: &str, made: Lines) -> Made
 }
 
 /// The body and its age; each payload is made once.
+#[tactic(auto, using(crate::proofs::SortingLemmas::same_age))]
 fn make(
     alloc: Global,
     catalog: &Catalog,
