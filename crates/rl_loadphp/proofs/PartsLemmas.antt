@@ -1,5 +1,5 @@
 -- What is said of names is lawful parts.
-use Rattle.std.proofs.Common.{◌≡◌, ℕ, ◌≤◌, List, [], ◌∷◌, ◌++◌, length, drop, map, Option, Some, None, option_map, IfSome, IsTrue, IsUtf8, refl, sym, subst}
+use Rattle.std.proofs.Common.{◌≡◌, ℕ, zero, suc, ◌+◌, ◌<◌, ◌≤◌, arith, get_or, List, [], ◌∷◌, ◌++◌, length, drop, map, Option, Some, None, option_map, IfSome, IsTrue, IsUtf8, refl, sym, subst}
 use Rattle.std.specs.List.{AllByRecursion, filter_map, cons_option}
 use Rattle.rl_names.specs.Name.{is_version}
 use Rattle.rl_wire.specs.declared.part.Part.{Part}
@@ -59,3 +59,10 @@ same_parts c ctx of_ctx served of_served missing of_missing a b e parts =
     let Q : List (List ℕ) → Type 0 = λ ns. AllByRecursion IsPart (parts_of c of_ctx ns missing) in
     let R : List (List ℕ) → Type 0 = λ ns. AllByRecursion IsPart (parts_of c of_ctx of_served ns) in
     subst R e (subst Q b (subst P a parts))
+
+-- what holds of one element and of those behind it
+pub one_left : {X : Type 0} (P : X → Type 0) (xs : List X) (i : ℕ) (x : X) → i < length xs → x ≡ get_or xs i x → P x →
+    AllByRecursion P (drop (i + 1) xs) → AllByRecursion P (drop i xs)
+one_left P [] i x within is h rest = absurd (omega arith)
+one_left P (y ∷ ys) zero x within is h rest = (subst P is h, rest)
+one_left P (y ∷ ys) (suc i) x within is h rest = one_left P ys i x (omega arith) is h rest
