@@ -1,5 +1,6 @@
 -- What is said of names is lawful parts.
-use Rattle.std.proofs.Common.{◌≡◌, ℕ, zero, suc, ◌+◌, ◌<◌, ◌≤◌, arith, get_or, List, [], ◌∷◌, ◌++◌, length, drop, map, Option, Some, None, option_map, IfSome, IsTrue, IsUtf8, refl, sym, subst}
+use Rattle.std.proofs.Common.{◌≡◌, ℕ, zero, suc, ◌+◌, ◌<◌, ◌≤◌, arith, get_or, List, [], ◌∷◌, ◌++◌, length, drop, map}
+use Rattle.std.proofs.Common.{Option, Some, None, option_map, IfSome, IsTrue, IsUtf8, sym, subst}
 use Rattle.std.specs.List.{AllByRecursion, filter_map, cons_option}
 use Rattle.rl_names.specs.Name.{is_version}
 use Rattle.rl_wire.specs.declared.part.Part.{Part}
