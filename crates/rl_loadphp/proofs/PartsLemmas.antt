@@ -66,4 +66,6 @@ pub one_left : {X : Type 0} (P : X → Type 0) (xs : List X) (i : ℕ) (x : X) �
     AllByRecursion P (drop (i + 1) xs) → AllByRecursion P (drop i xs)
 one_left P [] i x within is h rest = absurd (omega arith)
 one_left P (y ∷ ys) zero x within is h rest = (subst P is h, rest)
-one_left P (y ∷ ys) (suc i) x within is h rest = one_left P ys i x (omega arith) is h rest
+one_left P (y ∷ ys) (suc i) x within is h rest =
+    let next : suc i + 1 ≡ suc (i + 1) = omega arith in
+    one_left P ys i x (omega arith) is h (subst (λ n. AllByRecursion P (drop n (y ∷ ys))) next rest)
