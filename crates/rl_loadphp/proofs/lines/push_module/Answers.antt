@@ -14,4 +14,4 @@ pub returns-clause-part : goal.returns-clause-part
 returns-clause-part c =
     implementation_part (payload_of c.args.catalog.now c.args.ctx.now c.args.name.now) c.args.name.now c.in-Some.brought c.in_ok-version.version
     (search rules) c.in_ok-version.ensures.value c.in_ok-version.ensures.version
-    (subst (λ (name : List ℕ). IsBrought name c.in-Some.brought) c.as_bytes.ensures (search rules))
+    (subst (λ (name : List ℕ). IsBrought name c.in-Some.brought) c.as_bytes.ensures.value (search rules))
