@@ -3,7 +3,6 @@ use Rattle.std.proofs.Common.{◌≡◌, ℕ, zero, suc, ◌+◌, ◌<◌, ◌�
 use Rattle.std.proofs.Common.{Option, Some, None, option_map, IfSome, IsTrue, IsUtf8, sym, subst}
 use Rattle.std.specs.List.{AllByRecursion, filter_map, cons_option}
 use Rattle.rl_names.specs.Name.{is_version}
-use Rattle.rl_wire.specs.declared.part.Part.{Part}
 use Rattle.rl_wire.specs.Line.{IsPart}
 use Rattle.rl_wire.proofs.EveryLemmas.{none_left}
 use Rattle.rl_defs.specs.Catalogue.{Catalogue}

@@ -1,4 +1,4 @@
-use Rattle.std.proofs.Common.{◌≤◌, ℕ, List, length, IsUtf8, subst, rules, arith}
+use Rattle.std.proofs.Common.{ℕ, List, IsUtf8, subst, rules, arith}
 use Rattle.rl_wire.specs.Line.{line, state_text}
 use Rattle.rl_wire.proofs.EveryLemmas.{none_left}
 use Rattle.rl_loadphp.proofs.MadeLemmas.{more_made}
