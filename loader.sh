@@ -36,6 +36,12 @@ if [ "${1-}" = --unproved ]; then
     run_unproved "$@"
 fi
 
+# The help is read off the source, so that nothing is proved for it.
+if [ "${1-}" = --help ]; then
+    sed -n '/^const HELP/,/^";/{/^const HELP/d;/^";/d;p;}' "$top/crates/loader/src/main.rt"
+    exit
+fi
+
 if ! is_built; then
     echo "loader.sh: the first run proves every crate: some 20 minutes on four processors, and none after that" >&2
     echo "loader.sh: to look at once, unproved, stop this and put --unproved in front of the words" >&2

@@ -30,6 +30,7 @@ use Rattle.rl_book_spec.specs.Opening.{Opening, view_of}
 use Rattle.rl_book_spec.specs.Traffic.{Traffic, traffic_of}
 use Rattle.rl_book_spec.specs.declared.Call.{Call}
 use Rattle.rl_book_spec.specs.declared.Plan.{Plan}
+use Rattle.rl_names.specs.declared.counted.TheConstants as limits
 
 -- The startup text and the embedded text that it was opened with, what they say, its calls, of which the newest stands
 -- first, and the rows that executed, in order, each with whether an observer threw.
@@ -81,7 +82,7 @@ IsStage v (event ∷ past) log = ((times : ℕ) × (log ≡ run_times v (event �
 
 -- what holds of a book at every moment
 pub record IsBook (b : Booked) : Type 0 where
-  pub few : length b.opening.registered.rows ≤ 4096
+  pub few : length b.opening.registered.rows ≤ limits.MAX_ROWS
   pub distinct : HasDistinctNames b.opening.registered
   pub stage : IsStage (view_in b) (events_in b) (rows_run b)
 

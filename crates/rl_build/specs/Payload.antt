@@ -1,9 +1,11 @@
 -- What a module brings to a page: a script, styles and messages.
-use Rattle.std.specs.Prelude.{ℕ, List, [], flat_map, Option, option_map}
+use Rattle.std.specs.Prelude.{ℕ, List, [], flat_map, Option, option_map, IsTrue, IsUtf8}
 use Rattle.std.specs.Option.{option_map_or}
 use Rattle.rl_names.specs.Hash.{hash_5}
+use Rattle.rl_names.specs.Name.{is_name}
 use Rattle.rl_names.specs.Packing.{distinct}
-use Rattle.rl_wire.specs.Line.{line}
+use Rattle.rl_wire.specs.Line.{line, AreTexts}
+use Rattle.rl_wire.specs.Message.{AreAscending}
 use Rattle.rl_wire.specs.Payload.{payload_text}
 use Rattle.rl_defs.specs.Catalogue.{Catalogue, file_of, module_named}
 use Rattle.rl_defs.specs.declared.module_def.ModuleDef.{ModuleDef}
@@ -25,6 +27,10 @@ payload_of_module c m = record { script = joined c m.scripts; styles = []; messa
 -- what a name brings, where it has a sheet
 abbrev pub payload_of : Catalogue → Context → List ℕ → Option Payload
 payload_of c ctx name = option_map (payload_of_module c) (module_named c name)
+
+-- what holds of a name and of what it brings: the name is one, the texts are UTF-8, and the messages are in order
+abbrev pub IsBrought : List ℕ → Payload → Type 0
+IsBrought name p = IsTrue (is_name name) × IsUtf8 p.script × IsUtf8 p.styles × AreTexts p.messages × AreAscending p.messages
 
 -- the hash of all that a module brings
 abbrev pub version_of : Payload → List ℕ

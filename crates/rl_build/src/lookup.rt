@@ -1,9 +1,10 @@
 //! Look-ups by name in a context.
-ghost use Rattle.std.specs.Prelude.{◌≡◌, IfOk, IfSome, is_some, option_map};
+ghost use Rattle.std.specs.Prelude.{◌≡◌, [], IfOk, IfSome, IsTrue, IsUtf8, is_some, option_map};
+ghost use Rattle.rl_names.specs.Name.{is_name};
 ghost use Rattle.rl_defs.specs.Catalogue.{module_named};
 ghost use Rattle.rl_wire.specs.Message.{AreAscending};
 ghost use Rattle.rl_build.specs.Sheet.{sheet_of, sheet_of_module, AreAllNames};
-ghost use Rattle.rl_build.specs.Payload.{payload_of, payload_of_module};
+ghost use Rattle.rl_build.specs.Payload.{payload_of, payload_of_module, IsBrought};
 
 use crate::context::Context;
 use crate::payloads::Payload;
@@ -13,8 +14,10 @@ use rl_defs::{Catalog, ModuleDef};
 use rl_names::{Name, NoMemory, Seq, Text};
 use std::alloc::Global;
 
+#[tactic(auto, using(crate::proofs::KnownLemmas::named_lawfully))]
 fn module_of<'a>(catalog: &'a Catalog, name: &[u8]) -> Option<&'a ModuleDef>
-    ensures { option_map (λ m. m.now) result ≡ module_named catalog.now name.now }
+    ensures value { option_map (λ m. m.now) result ≡ module_named catalog.now name.now }
+    ensures name { IfSome result (λ _. IsTrue (is_name name.now)) }
 {
     let at = catalog.find(name)?;
     Some(catalog.module_at(at))
@@ -85,7 +88,8 @@ fn payload_of_module(
     catalog: &Catalog,
     module: &ModuleDef,
 ) -> Result<Payload, NoMemory>
-    ensures { IfOk result (λ p. p ≡ payload_of_module catalog.now module.now) }
+    ensures value { IfOk result (λ p. p ≡ payload_of_module catalog.now module.now) }
+    ensures texts { IfOk result (λ p. IsUtf8 p.script × IsUtf8 p.styles × (p.messages ≡ [])) }
 {
     Ok(Payload {
         script: joined(alloc, catalog, module.scripts.as_slice())?,
@@ -95,6 +99,7 @@ fn payload_of_module(
 }
 
 /// What a name brings, or none where it has no sheet.
+#[tactic(auto, using(crate::proofs::KnownLemmas::brought))]
 pub fn payload(
     alloc: Global,
     catalog: &Catalog,
@@ -103,6 +108,9 @@ pub fn payload(
 ) -> Result<Option<Payload>, NoMemory>
     ensures value { IfOk result (λ p. p ≡ payload_of catalog.now ctx.now name.now) }
     ensures ascending { IfOk result (λ p. IfSome p (λ p. AreAscending p.messages)) }
+
+    // So a part can be made of it.
+    ensures lawful { IfOk result (λ p. IfSome p (IsBrought name.now)) }
     ensures with_sheet { IfOk result (λ p. is_some p ≡ is_some (sheet_of catalog.now ctx.now name.now)) }
 {
     match module_of(catalog, name) {

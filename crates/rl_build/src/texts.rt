@@ -1,5 +1,5 @@
 //! The texts of files one after another, and names as texts.
-ghost use Rattle.std.specs.Prelude.{◌≡◌, ◌++◌, IfOk, OnOk, string_bytes};
+ghost use Rattle.std.specs.Prelude.{◌≡◌, ◌++◌, IfOk, IsUtf8, OnOk, string_bytes};
 ghost use Rattle.rl_names.specs.Packing.{distinct as distinct_of};
 ghost use Rattle.rl_build.specs.Payload.{file_lines, joined as joined_of};
 
@@ -20,7 +20,8 @@ fn push_file(out: &mut String, catalog: &Catalog, file: &str) -> Result<(), NoMe
 
 /// The texts of files one after another, each file once.
 pub(crate) fn joined(alloc: Global, catalog: &Catalog, files: &[Text]) -> Result<Text, NoMemory>
-    ensures { IfOk result (λ t. t ≡ joined_of catalog.now files.now) }
+    ensures value { IfOk result (λ t. t ≡ joined_of catalog.now files.now) }
+    ensures utf8 { IfOk result IsUtf8 }
 {
     let once = distinct(alloc, files)?;
     let mut out = String::new(alloc);

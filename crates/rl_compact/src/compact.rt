@@ -11,7 +11,7 @@ ghost use Rattle.rl_compact.specs.Unmarked.{IsLeft};
 
 use crate::brought::{keep_unmarked, mark_brought};
 use crate::unresolved::mark_unresolved;
-use rl_names::{NoMemory, Row, Seq, Text};
+use rl_names::{MAX_ROWS, NoMemory, Row, Seq, Text};
 use rl_rows::{all_edges, index_of};
 use std::alloc::Global;
 
@@ -61,7 +61,7 @@ fn compact_one(alloc: Global, row: Row, numbers: &[u32], bare: &[Vec<u32>]) -> R
 
 /// Leaves each dependency out of a row that another dependency of that row brings.
 pub fn compact(alloc: Global, rows: Vec<Row>) -> Result<Vec<Row>, NoMemory>
-    requires few { length rows.items ≤ 4096 }
+    requires few { length rows.items ≤ MAX_ROWS }
     requires distinct { AreDistinct rows.items }
     requires within { HasDepsWithin (plain rows.items) }
     ensures { IfOk result (λ left. left.items ≡ compacted rows.items) }

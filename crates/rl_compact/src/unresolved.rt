@@ -5,7 +5,7 @@ ghost use Rattle.rl_compact.specs.Laws.{MarksSayUnresolved};
 ghost use Rattle.rl_compact.specs.Unresolved.{IsLooped, IsBad, AreBad, MarkUnresolved};
 
 use rl_graph::{is_marked, reach, reversed};
-use rl_names::NoMemory;
+use rl_names::{MAX_ROWS, NoMemory};
 use std::alloc::Global;
 
 /// Where the edges are those of rows without features, the marks that `mark_unresolved` makes say which rows do not resolve.
@@ -37,7 +37,7 @@ fn is_bad(alloc: Global, edges: &[Vec<u32>], lacks: &[bool], number: u32) -> Res
 
 /// The numbers that lack something, and those that lead back to themselves.
 fn bad_numbers(alloc: Global, edges: &[Vec<u32>], lacks: &[bool]) -> Result<Vec<u32>, NoMemory>
-    requires few { length edges.now ≤ 4096 }
+    requires few { length edges.now ≤ MAX_ROWS }
     requires within { IsWithin (edge_lists edges.now) }
     ensures { IfOk result (λ bad. AreBad (edge_lists edges.now) lacks.now (length edges.now) bad.items) }
 {
@@ -57,7 +57,7 @@ pub fn mark_unresolved(
     edges: &[Vec<u32>],
     lacks: &[bool],
 ) -> Result<Vec<bool>, NoMemory>
-    requires few { length edges.now ≤ 4096 }
+    requires few { length edges.now ≤ MAX_ROWS }
     requires within { IsWithin (edge_lists edges.now) }
     ensures { IfOk result (λ marks. MarkUnresolved (edge_lists edges.now) lacks.now marks.items) }
 {

@@ -1,18 +1,26 @@
 -- What is answered is made for the query that the bytes spell.
-use Rattle.std.proofs.Common.{◌≡◌, ℕ, Bool, true, false, cond, List, Result, Ok, Err, IfOk, sym, subst, ◌∙◌}
+use Rattle.std.proofs.Common.{◌≡◌, ℕ, Bool, true, false, cond, List, Result, Ok, Err, IfOk, sym, subst, ap, ◌∙◌}
 use Rattle.std.specs.Prelude.{length, nat_lt}
+use Rattle.std.specs.List.{AllByRecursion}
 use Rattle.rl_names.specs.Meant.{Gives}
 use Rattle.rl_names.specs.Limits.{limit_of}
 use Rattle.rl_names.specs.Packing.{expand}
 use Rattle.rl_names.specs.Query.{query_of}
 use Rattle.rl_names.specs.declared.counted.Counted.TheVariants.{QueryBytes, Names, AnswerBytes}
 use Rattle.rl_names.specs.declared.query.Query.{Query}
+use Rattle.rl_names.specs.declared.query.Only.{Only}
+use Rattle.rl_names.specs.declared.query.Only.TheVariants.{All}
+use Rattle.rl_wire.specs.Line.{wire_text, IsPart}
+use Rattle.rl_wire.specs.Reading.{answer_of as parts_said}
+use Rattle.rl_wire.proofs.LinesLemmas.{answers_say_parts}
 use Rattle.rl_defs.specs.Catalogue.{Catalogue}
 use Rattle.rl_loadphp.specs.declared.answers.Answer.{Answer}
 use Rattle.rl_loadphp.specs.declared.answers.AnswerError.{AnswerError}
 use Rattle.rl_loadphp.specs.Answer.{answer_to, asked, sent}
 use Rattle.rl_loadphp.specs.Refusal.{Refusal, QueryTooLong, TooManyNames, AnswerTooLong, refusal_told}
-use Rattle.rl_loadphp.specs.Sent.{IsMadeOfPieces}
+use Rattle.rl_loadphp.specs.Served.{missing, query_context, served}
+use Rattle.rl_loadphp.specs.Body.{body_of, parts_of}
+use Rattle.rl_loadphp.specs.Sent.{IsMadeOfPieces, SaysParts}
 use Rattle.rl_loadphp.proofs.PiecesLemmas.{body_made}
 
 -- what is left of two tests that refuse
@@ -39,3 +47,21 @@ answer_made c bytes q made (Ok a) is is_made gives =
     let P : Answer → Type 0 = λ x. IsMadeOfPieces c q x.body in
     let Q : Query → Type 0 = λ x. IsMadeOfPieces c x a.body in
     subst Q (asked_is bytes q is) (subst P (sym whole) (body_made c q q.only))
+
+-- a body for everything is the text of the parts that are said
+says : (c : Catalogue) (q : Query) (a : Answer) → a ≡ answer_to c q
+    → (q.only ≡ All → AllByRecursion IsPart (parts_of c (query_context c q) (served c q) (missing c q))) → SaysParts q a.body
+says c q a is parts all =
+    let said = parts_of c (query_context c q) (served c q) (missing c q) in
+    let body : a.body ≡ wire_text said =
+    ap (λ (x : Answer). x.body) is ∙ ap (λ (o : Only). body_of c (query_context c q) o (served c q) (missing c q)) all in
+    (said, parts all, body, ap parts_said body ∙ answers_say_parts.written said (parts all))
+
+pub answer_says : (c : Catalogue) (bytes : List ℕ) (q : Query) (made : Answer) (r : Result Answer AnswerError) → asked bytes ≡ Ok q
+    → made ≡ answer_to c q → (q.only ≡ All → AllByRecursion IsPart (parts_of c (query_context c q) (served c q) (missing c q)))
+    → Gives refusal_told r (sent made) → IfOk r (λ (a : Answer). SaysParts (query_of bytes) a.body)
+answer_says c bytes q made (Err e) is is_made parts gives = tt
+answer_says c bytes q made (Ok a) is is_made parts gives =
+    let whole : a ≡ answer_to c q = unsent (nat_lt (limit_of AnswerBytes) (length made.body)) (AnswerTooLong (length made.body)) made a gives ∙ is_made in
+    let Q : Query → Type 0 = λ x. SaysParts x a.body in
+    subst Q (asked_is bytes q is) (says c q a whole parts)

@@ -3,3 +3,4 @@ pub mod PiecesLemmas
 pub mod SortingLemmas
 pub mod AskingLemmas
 pub mod IsolationLemmas
+pub mod PartsLemmas

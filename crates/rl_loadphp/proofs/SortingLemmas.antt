@@ -1,11 +1,12 @@
 -- The names that are served and those that are not, and the answer over them.
-use Rattle.std.proofs.Common.{◌≡◌, ℕ, Bool, not, ◌==◌, nat_lt, List, [], ◌∷◌, length, filter, refl, ap, ◌∙◌, arith}
+use Rattle.std.proofs.Common.{◌≡◌, ℕ, Bool, true, false, not, ◌==◌, nat_lt, List, [], ◌∷◌, length, filter, refl, ap, ◌∙◌, arith}
 use Rattle.std.proofs.lemmas.Bool.Decides.{nat_tests}
 use Rattle.rl_names.specs.declared.query.Query.{Query}
 use Rattle.rl_defs.specs.Catalogue.{Catalogue}
 use Rattle.rl_build.specs.declared.context.Context.{Context}
 use Rattle.rl_loadphp.specs.declared.answers.Kind.{Kind}
 use Rattle.rl_loadphp.specs.declared.answers.Answer.{Answer}
+use Rattle.rl_loadphp.specs.Answer.{age_with}
 use Rattle.rl_loadphp.specs.Served.{names_of, query_context, is_served, served, missing}
 
 pub served_names : (c : Catalogue) (q : Query) (ctx : Context) (user : List ℕ) (names these : List (List ℕ))
@@ -35,3 +36,12 @@ some_told (b ∷ bs) = grind (arith, nat_tests)
 
 pub told : (empty : Bool) (read user : List ℕ) → empty ≡ (length read == 0) → read ≡ user → not empty ≡ nat_lt 0 (length user)
 told empty read user is same = rw (is, same) (some_told user)
+
+-- where no version is told the versions do not matter
+pub same_age : (told of_told : List ℕ) (versions these : List (List ℕ)) (empty : Bool) → told ≡ of_told → empty ≡ (length told == 0) →
+    (not empty ≡ true → versions ≡ these) → age_with told versions ≡ age_with of_told these
+same_age [] of_told versions these empty is e same = rw (← is) refl
+same_age (b ∷ bs) of_told versions these empty is e same =
+    let some : (length (b ∷ bs) == 0) ≡ false = grind (arith, nat_tests) in
+    let wanted : not empty ≡ true = rw (e, some) refl in
+    rw (← is, same wanted) refl

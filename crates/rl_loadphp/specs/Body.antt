@@ -36,9 +36,13 @@ scripts_text c ctx names = flat_map (λ (p : Payload). p.script) (payloads c ctx
 abbrev pub styles_text : Catalogue → Context → List (List ℕ) → List ℕ
 styles_text c ctx names = flat_map (λ (p : Payload). p.styles) (payloads c ctx names)
 
+-- what is said of each name: implementations of those served, and the state of all others
+abbrev pub parts_of : Catalogue → Context → List (List ℕ) → List (List ℕ) → List Part
+parts_of c ctx served missing = implementations c ctx served ++ map missing_part missing
+
 -- Implementations stand before states, each in the order asked. Scripts alone are followed by the line `ready` of each
 -- module that is served; styles alone by nothing.
 abbrev pub body_of : Catalogue → Context → Only → List (List ℕ) → List (List ℕ) → List ℕ
-body_of c ctx All served missing = wire_text (implementations c ctx served ++ map missing_part missing)
+body_of c ctx All served missing = wire_text (parts_of c ctx served missing)
 body_of c ctx Scripts served missing = scripts_text c ctx served ++ (states_text (codes "ready") served ++ states_text (codes "missing") missing)
 body_of c ctx Styles served missing = styles_text c ctx served

@@ -1,9 +1,12 @@
 -- What an answer is made of: texts of modules that may be sent for its query, and lines that tell whether a name that
--- it asks for is served.
-use Rattle.std.specs.Prelude.{◌≡◌, ◌≢◌, ℕ, List, [], ◌∷◌, flat_map, Some, Contains, codes}
+-- it asks for is served; and what a reader gets of it.
+use Rattle.std.specs.Prelude.{◌≡◌, ◌≢◌, ℕ, List, [], ◌∷◌, flat_map, Some, Ok, Contains, codes}
 use Rattle.std.specs.List.{AllByRecursion}
 use Rattle.rl_names.specs.declared.query.Query.{Query}
-use Rattle.rl_wire.specs.Line.{line, implement_text, state_text}
+use Rattle.rl_names.specs.declared.query.Only.TheVariants.{All}
+use Rattle.rl_wire.specs.declared.part.Part.{Part}
+use Rattle.rl_wire.specs.Line.{line, implement_text, state_text, wire_text, IsPart}
+use Rattle.rl_wire.specs.Reading.{answer_of as parts_said}
 use Rattle.rl_defs.specs.Catalogue.{Catalogue}
 use Rattle.rl_build.specs.declared.sheets.Sheet.{Sheet}
 use Rattle.rl_build.specs.declared.payloads.Payload.{Payload}
@@ -32,3 +35,8 @@ pub data Piece (c : Catalogue) (q : Query) : List ℕ → Type 0 where
 
 abbrev pub IsMadeOfPieces : Catalogue → Query → List ℕ → Type 0
 IsMadeOfPieces c q body = (pieces : List (List ℕ)) × (body ≡ flat_map (λ piece. piece) pieces) × AllByRecursion (Piece c q) pieces
+
+-- Of a body for everything that modules bring a reader gets lawful parts: the body is their text, and no other parts have it.
+abbrev pub SaysParts : Query → List ℕ → Type 0
+SaysParts q body =
+    q.only ≡ All → (parts : List Part) × AllByRecursion IsPart parts × (body ≡ wire_text parts) × (parts_said body ≡ Ok parts)

@@ -1,18 +1,21 @@
 //! The answer to a query, from its bytes.
 ghost use Rattle.std.specs.Prelude.{◌≡◌, IfOk, map, string_bytes};
+ghost use Rattle.std.specs.List.{AllByRecursion};
+ghost use Rattle.rl_names.specs.declared.query.Only.{Only as only};
+ghost use Rattle.rl_wire.specs.Line.{IsPart};
 ghost use Rattle.rl_names.specs.Meant.{Gives};
 ghost use Rattle.rl_build.specs.Payload.{version_of};
-ghost use Rattle.rl_loadphp.specs.Served.{payloads, query_context};
-ghost use Rattle.rl_loadphp.specs.Body.{body_of};
+ghost use Rattle.rl_loadphp.specs.Served.{missing, payloads, query_context, served};
+ghost use Rattle.rl_loadphp.specs.Body.{body_of, parts_of};
 ghost use Rattle.rl_loadphp.specs.Answer.{answer_of, answer_to as answer_to_query, age_with, asked, kind_of, sent};
 ghost use Rattle.rl_loadphp.specs.Refusal.{refusal_told};
-ghost use Rattle.rl_loadphp.specs.Sent.{IsMadeOfPieces};
+ghost use Rattle.rl_loadphp.specs.Sent.{IsMadeOfPieces, SaysParts};
 ghost use Rattle.rl_names.specs.Query.{query_of};
 
 use crate::answers::{Answer, AnswerError, Kind};
-use crate::lines::modules;
+use crate::lines::{Lines, modules};
 use crate::serving::{Asked, sort_out};
-use crate::texts::{scripts, styles, versions};
+use crate::texts::{scripts, styles};
 use rl_build::Context;
 use rl_defs::Catalog;
 use rl_names::{
@@ -51,23 +54,6 @@ fn age(told: &str, versions: &[Version]) -> u32
     }
 }
 
-/// The same for what these names bring, which is looked at only where a version is told.
-fn age_of_names(
-    alloc: Global,
-    catalog: &Catalog,
-    ctx: &Context,
-    told: &str,
-    names: &[Text],
-) -> Result<u32, NoMemory>
-    ensures { IfOk result (λ n. n ≡ age_with told.now (map version_of (payloads catalog.now ctx.now names.now))) }
-{
-    if told.is_empty() {
-        return Ok(SHORT);
-    }
-    let versions = versions(alloc, catalog, ctx, names)?;
-    Ok(age(told, &versions))
-}
-
 /// A body and its age.
 #[derive(Drop)]
 struct Made {
@@ -75,6 +61,20 @@ struct Made {
     max_age: u32,
 }
 
+/// What was made, with its age.
+fn aged(told: &str, made: Lines) -> Made
+    ensures body { string_bytes result.body ≡ string_bytes made.body }
+    ensures age { result.max_age ≡ age_with told.now made.versions.items }
+{
+    let max_age = age(told, &made.versions);
+    Made {
+        body: made.body,
+        max_age,
+    }
+}
+
+/// The body and its age; each payload is made once.
+#[tactic(auto, using(crate::proofs::SortingLemmas::same_age))]
 fn make(
     alloc: Global,
     catalog: &Catalog,
@@ -86,27 +86,15 @@ fn make(
         ≡ body_of catalog.now ctx.now query.now.only names.now.served.items names.now.missing.items) }
     ensures age { IfOk result (λ m. m.max_age
         ≡ age_with query.now.version (map version_of (payloads catalog.now ctx.now names.now.served.items))) }
+    ensures parts { IfOk result (λ _. query.now.only ≡ only.All → AllByRecursion IsPart
+        (parts_of catalog.now ctx.now names.now.served.items names.now.missing.items)) }
 {
     let told = query.version.as_str();
+    let wanted = !told.is_empty();
     match query.only {
-        Only::All => {
-            let made = modules(alloc, catalog, ctx, names)?;
-            let max_age = age(told, &made.versions);
-            Ok(Made {
-                body: made.body,
-                max_age,
-            })
-        }
-        Only::Scripts => {
-            let max_age = age_of_names(alloc, catalog, ctx, told, &names.served)?;
-            let body = scripts(alloc, catalog, ctx, names)?;
-            Ok(Made { body, max_age })
-        }
-        Only::Styles => {
-            let max_age = age_of_names(alloc, catalog, ctx, told, &names.served)?;
-            let body = styles(alloc, catalog, ctx, names)?;
-            Ok(Made { body, max_age })
-        }
+        Only::All => Ok(aged(told, modules(alloc, catalog, ctx, names)?)),
+        Only::Scripts => Ok(aged(told, scripts(alloc, catalog, ctx, names, wanted)?)),
+        Only::Styles => Ok(aged(told, styles(alloc, catalog, ctx, names, wanted)?)),
     }
 }
 
@@ -121,7 +109,9 @@ fn kind(only: Only) -> Kind
 
 /// The answer to a query, however many names it asks for and however long the answer is.
 fn answer_to(alloc: Global, catalog: &Catalog, query: &Query) -> Result<Answer, NoMemory>
-    ensures { IfOk result (λ a. a ≡ answer_to_query catalog.now query.now) }
+    ensures value { IfOk result (λ a. a ≡ answer_to_query catalog.now query.now) }
+    ensures parts { IfOk result (λ _. query.now.only ≡ only.All → AllByRecursion IsPart
+        (parts_of catalog.now (query_context catalog.now query.now) (served catalog.now query.now) (missing catalog.now query.now))) }
 {
     let ctx = read_context(alloc, catalog, query)?;
     let asked = expand(alloc, query.modules.as_str())?;
@@ -172,6 +162,9 @@ pub fn answer(alloc: Global, catalog: &Catalog, query: &[u8]) -> Result<Answer, 
     // Nothing of a private module is sent, nor of one that another wiki serves, nor of another
     // user's.
     ensures pieces { IfOk result (λ a. IsMadeOfPieces catalog.now (query_of query.now) a.body) }
+
+    // Of an answer without `only` a reader gets parts: their names are names, and the keys of their messages ascend.
+    ensures parts { IfOk result (λ a. SaysParts (query_of query.now) a.body) }
 {
     let query = read_query(alloc, query)?;
     sent(answer_to(alloc, catalog, &query)?)

@@ -1,111 +1,133 @@
 //! Bodies of scripts or of styles alone.
-ghost use Rattle.std.specs.Prelude.{◌≡◌, ◌++◌, IfOk, OnOk, map, string_bytes};
+ghost use Rattle.std.specs.Prelude.{◌≡◌, ◌++◌, ◌∷◌, [], true, IfOk, OnOk, map, string_bytes};
+ghost use Rattle.rl_wire.specs.Message.{AreAscending};
 ghost use Rattle.rl_build.specs.Payload.{version_of};
 ghost use Rattle.rl_names.specs.declared.query.Only.{Only as only};
 ghost use Rattle.rl_loadphp.specs.Served.{payloads};
 ghost use Rattle.rl_loadphp.specs.Body.{body_of};
 ghost use Rattle.rl_loadphp.specs.Steps.{version_in, script_of, styles_of};
 
-use crate::lines::push_states;
+use crate::lines::{Lines, push_states};
 use crate::serving::Asked;
-use rl_build::{Context, payload, version};
+use rl_build::{Context, Payload, payload, version};
 use rl_defs::Catalog;
-use rl_names::{NoMemory, Text, Version};
+use rl_names::{NoMemory, Version};
 use std::alloc::Global;
 
-fn push_script(
+/// Adds the version of a payload, where it is wanted.
+fn push_version(
     alloc: Global,
-    out: &mut String,
-    catalog: &Catalog,
-    ctx: &Context,
-    name: &str,
+    versions: &mut Vec<Version>,
+    wanted: bool,
+    brought: &Payload,
 ) -> Result<(), NoMemory>
-    ensures { OnOk result (string_bytes out.new ≡ string_bytes out.old ++ script_of catalog.now ctx.now name.now) }
+    requires { AreAscending brought.now.messages }
+    ensures { OnOk result (wanted ≡ true → versions.new.items ≡ versions.old.items ++ version_of brought.now ∷ []) }
 {
-    if let Some(brought) = payload(alloc, catalog, ctx, name.as_bytes())? {
-        out.push_str(brought.script.as_str())?;
+    if wanted {
+        versions.push(version(alloc, brought)?)?;
     }
     Ok(())
 }
 
-/// Scripts alone, and then the states of all names.
+/// Adds the script of a name, and where it is wanted the version.
+fn push_script(
+    alloc: Global,
+    out: &mut String,
+    versions: &mut Vec<Version>,
+    wanted: bool,
+    catalog: &Catalog,
+    ctx: &Context,
+    name: &str,
+) -> Result<(), NoMemory>
+    ensures text { OnOk result (string_bytes out.new ≡ string_bytes out.old ++ script_of catalog.now ctx.now name.now) }
+    ensures versions { OnOk result (wanted ≡ true
+        → versions.new.items ≡ versions.old.items ++ version_in catalog.now ctx.now name.now) }
+{
+    if let Some(brought) = payload(alloc, catalog, ctx, name.as_bytes())? {
+        out.push_str(brought.script.as_str())?;
+        push_version(alloc, versions, wanted, &brought)?;
+    }
+    Ok(())
+}
+
+/// Scripts alone, and then the states of all names; and the versions, where they are wanted.
 pub(crate) fn scripts(
     alloc: Global,
     catalog: &Catalog,
     ctx: &Context,
     names: &Asked,
-) -> Result<String, NoMemory>
-    ensures { IfOk result (λ b. string_bytes b
+    wanted: bool,
+) -> Result<Lines, NoMemory>
+    ensures body { IfOk result (λ m. string_bytes m.body
         ≡ body_of catalog.now ctx.now only.Scripts names.now.served.items names.now.missing.items) }
+    ensures versions { IfOk result (λ m. wanted ≡ true → m.versions.items
+        ≡ map version_of (payloads catalog.now ctx.now names.now.served.items)) }
 {
     let mut body = String::new(alloc);
+    let mut versions = Vec::new(alloc);
     'served: for name in &names.served {
-        push_script(alloc, &mut body, catalog, ctx, name.as_str())?;
+        push_script(
+            alloc,
+            &mut body,
+            &mut versions,
+            wanted,
+            catalog,
+            ctx,
+            name.as_str(),
+        )?;
     }
     push_states(alloc, &mut body, &names.served, "ready")?;
     push_states(alloc, &mut body, &names.missing, "missing")?;
-    Ok(body)
+    Ok(Lines { body, versions })
 }
 
+/// Adds the styles of a name, and where it is wanted the version.
 fn push_styles(
     alloc: Global,
     out: &mut String,
+    versions: &mut Vec<Version>,
+    wanted: bool,
     catalog: &Catalog,
     ctx: &Context,
     name: &str,
 ) -> Result<(), NoMemory>
-    ensures { OnOk result (string_bytes out.new ≡ string_bytes out.old ++ styles_of catalog.now ctx.now name.now) }
+    ensures text { OnOk result (string_bytes out.new ≡ string_bytes out.old ++ styles_of catalog.now ctx.now name.now) }
+    ensures versions { OnOk result (wanted ≡ true
+        → versions.new.items ≡ versions.old.items ++ version_in catalog.now ctx.now name.now) }
 {
     if let Some(brought) = payload(alloc, catalog, ctx, name.as_bytes())? {
         out.push_str(brought.styles.as_str())?;
+        push_version(alloc, versions, wanted, &brought)?;
     }
     Ok(())
 }
 
-/// Styles alone.
+/// Styles alone, and the versions, where they are wanted.
 pub(crate) fn styles(
     alloc: Global,
     catalog: &Catalog,
     ctx: &Context,
     names: &Asked,
-) -> Result<String, NoMemory>
-    ensures { IfOk result (λ b. string_bytes b
+    wanted: bool,
+) -> Result<Lines, NoMemory>
+    ensures body { IfOk result (λ m. string_bytes m.body
         ≡ body_of catalog.now ctx.now only.Styles names.now.served.items names.now.missing.items) }
+    ensures versions { IfOk result (λ m. wanted ≡ true → m.versions.items
+        ≡ map version_of (payloads catalog.now ctx.now names.now.served.items)) }
 {
     let mut body = String::new(alloc);
+    let mut versions = Vec::new(alloc);
     'served: for name in &names.served {
-        push_styles(alloc, &mut body, catalog, ctx, name.as_str())?;
+        push_styles(
+            alloc,
+            &mut body,
+            &mut versions,
+            wanted,
+            catalog,
+            ctx,
+            name.as_str(),
+        )?;
     }
-    Ok(body)
-}
-
-fn push_version(
-    alloc: Global,
-    versions: &mut Vec<Version>,
-    catalog: &Catalog,
-    ctx: &Context,
-    name: &str,
-) -> Result<(), NoMemory>
-    ensures { OnOk result (versions.new.items ≡ versions.old.items ++ version_in catalog.now ctx.now name.now) }
-{
-    if let Some(brought) = payload(alloc, catalog, ctx, name.as_bytes())? {
-        versions.push(version(alloc, &brought)?)?;
-    }
-    Ok(())
-}
-
-/// The versions of what these names bring.
-pub(crate) fn versions(
-    alloc: Global,
-    catalog: &Catalog,
-    ctx: &Context,
-    names: &[Text],
-) -> Result<Vec<Version>, NoMemory>
-    ensures { IfOk result (λ v. v.items ≡ map version_of (payloads catalog.now ctx.now names.now)) }
-{
-    let mut versions = Vec::with_capacity(alloc, names.len())?;
-    'names: for name in names {
-        push_version(alloc, &mut versions, catalog, ctx, name.as_str())?;
-    }
-    Ok(versions)
+    Ok(Lines { body, versions })
 }

@@ -7,7 +7,7 @@ ghost use Rattle.rl_startup.specs.Rows.{is_own, dep_of, group_of, source_of, row
 
 use crate::places::{places_of_names, places_of_texts};
 use rl_build::Sheet;
-use rl_names::{Dep, Group, Name, NoMemory, Row, Seq, Text, Version, distinct};
+use rl_names::{Dep, Group, MAX_ROWS, Name, NoMemory, Row, Seq, Text, Version, distinct};
 use std::alloc::Global;
 use std::collections::BTreeMap;
 
@@ -138,7 +138,7 @@ fn rows_by(
 /// from 2, in the order in which they first appear; a dependency is told by the number of its row, and
 /// by name where it has none.
 pub fn rows(alloc: Global, modules: &[Module]) -> Result<Vec<Row>, NoMemory>
-    requires few { length modules.now ≤ 4096 }
+    requires few { length modules.now ≤ MAX_ROWS }
 
     // A version is there exactly where the group is not private, and no skip is empty.
     requires fit { AreFit modules.now }

@@ -5,7 +5,7 @@ ghost use Rattle.rl_startup.specs.Places.{place_by};
 ghost use Rattle.rl_startup.specs.Rows.{names_of, place_in};
 
 use crate::modules::Module;
-use rl_names::{NoMemory, Text};
+use rl_names::{MAX_ROWS, NoMemory, Text};
 use std::alloc::Global;
 use std::collections::BTreeMap;
 
@@ -26,7 +26,7 @@ pub(crate) fn places_of_names<'a>(
     alloc: Global,
     modules: &'a [Module],
 ) -> Result<BTreeMap<&'a str, u16>, NoMemory>
-    requires { length modules.now ≤ 4096 }
+    requires { length modules.now ≤ MAX_ROWS }
     ensures { IfOk result (λ places. (q : List ℕ) → place_by places q ≡ place_in (names_of modules.now) q) }
 {
     let mut places = BTreeMap::new(alloc);
@@ -41,7 +41,7 @@ pub(crate) fn places_of_texts<'a>(
     alloc: Global,
     texts: &'a [Text],
 ) -> Result<BTreeMap<&'a str, u16>, NoMemory>
-    requires { length texts.now ≤ 4096 }
+    requires { length texts.now ≤ MAX_ROWS }
     ensures { IfOk result (λ places. (q : List ℕ) → place_by places q ≡ place_in texts.now q) }
 {
     let mut places = BTreeMap::new(alloc);

@@ -7,6 +7,7 @@ use Rattle.rl_states.specs.declared.standing.Standing.{Standing}
 use Rattle.rl_states.specs.Counted.{Held}
 use Rattle.rl_states.specs.Spoiled.{spoiled_in}
 use Rattle.rl_states.specs.Standings.{may_run}
+use Rattle.rl_names.specs.declared.counted.TheConstants as limits
 
 -- how many rows of a block may run
 abbrev pub runnable_in : List Standing → ℕ → ℕ
@@ -14,7 +15,7 @@ runnable_in standings block = count_by (λ numbered. numbered.0 / 64 == block &&
 
 -- at most 64 blocks of 64 rows; each row stands in one, and each block has how many of its rows may run
 pub record AreCounted (standings : List Standing) (runnable : List ℕ) : Type 0 where
-  pub few : length standings ≤ 4096
+  pub few : length standings ≤ limits.MAX_ROWS
   pub blocks : length runnable ≤ 64
   pub long : length standings ≤ 64 * length runnable
   pub each : (block : ℕ) → block < length runnable → slice_index runnable block ≡ runnable_in standings block

@@ -9,6 +9,7 @@ use Rattle.rl_states.specs.declared.table.Table.TheInside.{Inside}
 use Rattle.rl_graph.specs.Graph.{marked}
 use Rattle.rl_states.specs.Standings.{cell_of}
 use Rattle.rl_states.specs.Users.{AreUsers}
+use Rattle.rl_names.specs.declared.counted.TheConstants as limits
 
 -- the progress of the rows
 abbrev pub progress_in : Inside → Progress
@@ -52,7 +53,7 @@ pub record IsRunning (t : Progress) (row : ℕ) : Type 0 where
 
 -- what is kept beside the progress agrees with it
 pub record IsTable (t : Progress) (standings : List Standing) (users : List (List ℕ)) (marks : List Bool) : Type 0 where
-  pub few : length t.registered.rows ≤ 4096
+  pub few : length t.registered.rows ≤ limits.MAX_ROWS
   pub distinct : HasDistinctNames t.registered
   pub long : length standings ≡ length t.registered.rows
   pub cells : t.cells ≡ map cell_of standings

@@ -9,7 +9,7 @@ ghost use Rattle.rl_states.specs.declared.standing.Standing.{Standing};
 use crate::counted::{BLOCK, Counted, Steps};
 use crate::spoiled::spread;
 use crate::standing::{Standing, may_run};
-use rl_names::NoMemory;
+use rl_names::{MAX_ROWS, NoMemory};
 use rl_registry::Registry;
 use std::alloc::Global;
 use std::marker::Model;
@@ -138,7 +138,7 @@ impl Cells {
 
 /// How many rows of a block may run, after one of them that could or could not now can or cannot.
 fn recounted(runnable: usize, before: bool, after: bool) -> usize
-    requires few { runnable ≤ 4096 }
+    requires few { runnable ≤ MAX_ROWS }
     requires one { (if before then 1 else 0) ≤ runnable }
     ensures { result + (if before then 1 else 0) ≡ runnable + (if after then 1 else 0) }
 {

@@ -5,10 +5,11 @@ use Rattle.rl_loadphp.specs.Served.{names_of, query_context, served, missing, pa
 use Rattle.rl_loadphp.specs.Body.{body_of}
 use Rattle.rl_loadphp.specs.Answer.{age_with, age_of}
 use Rattle.rl_loadphp.proofs.SortingLemmas.{served_names, missing_names, same_answer, told}
+use Rattle.rl_loadphp.proofs.PartsLemmas.{same_parts}
 use Rattle.rl_loadphp.proofs.requests.answer_to.Goals as goal
 
-pub returns : goal.returns
-returns c =
+pub returns-clause-value : goal.returns-clause-value
+returns-clause-value c =
     let catalog = c.args.catalog.now in
     let q = c.args.query.now in
     let ctx = c.in_ok-ctx.ctx in
@@ -29,3 +30,18 @@ returns c =
     ∙ ap (λ x. age_with q.version (map version_of (payloads catalog x sorted.served.items))) c.in_ok-ctx.ensures
     ∙ ap (λ s. age_with q.version (map version_of (payloads catalog (query_context catalog q) s))) these in
     same_answer _ _ _ _ _ _ _ _ body c.kind.ensures age (told c.is_empty.result _ q.user c.is_empty.ensures c.as_str-3.ensures)
+
+pub returns-clause-parts : goal.returns-clause-parts
+returns-clause-parts c all =
+    let catalog = c.args.catalog.now in
+    let q = c.args.query.now in
+    let ctx = c.in_ok-ctx.ctx in
+    let sorted = c.in_ok-names-2.names in
+    let names : c.in_ok-names.names.items ≡ names_of q =
+    c.in_ok-names.ensures ∙ ap distinct (c.deref.ensures.value ∙ c.in_ok-asked.ensures ∙ ap expand c.as_str.ensures) in
+    let these : sorted.served.items ≡ served catalog q = served_names catalog q ctx _ _ _ c.in_ok-ctx.ensures c.as_str-2.ensures names
+    c.in_ok-names-2.ensures.served in
+    let others : sorted.missing.items ≡ missing catalog q =
+    missing_names catalog q ctx _ _ _ c.in_ok-ctx.ensures c.as_str-2.ensures names c.in_ok-names-2.ensures.missing in
+    same_parts catalog ctx (query_context catalog q) sorted.served.items (served catalog q) sorted.missing.items (missing catalog q)
+    c.in_ok-ctx.ensures these others (c.in_ok-made.ensures.parts all)

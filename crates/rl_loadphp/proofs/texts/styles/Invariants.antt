@@ -1,7 +1,10 @@
-use Rattle.std.proofs.Common.{◌≡◌, take, string_bytes}
+use Rattle.std.proofs.Common.{◌≡◌, true, take, string_bytes}
 use Rattle.std.specs.List.{flat_map}
-use Rattle.rl_loadphp.specs.Steps.{styles_of}
+use Rattle.rl_loadphp.specs.Steps.{styles_of, version_in}
 use Rattle.rl_loadphp.proofs.texts.styles.Given as goal
 
 abbrev pub invariant-served : goal.invariant-served
-invariant-served l = string_bytes l.body ≡ flat_map (styles_of l.catalog l.ctx) (take l.name-index l.name-items)
+invariant-served l = record {
+  body : string_bytes l.body ≡ flat_map (styles_of l.catalog l.ctx) (take l.name-index l.name-items);
+  versions : l.wanted ≡ true → l.versions.items ≡ flat_map (version_in l.catalog l.ctx) (take l.name-index l.name-items);
+}
