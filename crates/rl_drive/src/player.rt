@@ -142,7 +142,8 @@ impl Player {
     {
         match self.table.registry().resolve_all(slice::from_ref(name)) {
             Ok(_) => Ok(true),
-            Err(ResolveError::Unknown { .. } | ResolveError::Cycle { .. }) => Ok(false),
+            Err(ResolveError::Unknown { .. }) => Ok(false),
+            Err(ResolveError::Cycle { .. }) => Ok(false),
             Err(ResolveError::NoMemory) => Err(NoMemory),
         }
     }
