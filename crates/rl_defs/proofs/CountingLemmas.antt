@@ -1,19 +1,20 @@
 -- What is counted where definitions are refused is something in them, never the bytes of their file.
 use Rattle.std.proofs.Common.{◌≢◌, ℕ, ◌-◌, ◌^◌, min, Bool, true, false, List, [], ◌∷◌, length, Option, Some, None}
-use Rattle.std.specs.Prelude.{if◌then◌else◌, nat_le, bytes_eq, codes, is_some, Result, Ok, Err}
-use Rattle.toml.specs.Data.{Data, table, Members}
+use Rattle.std.specs.Prelude.{nat_le, bytes_eq, codes, is_some, Result, Ok, Err}
+use Rattle.toml.specs.Data.{Members}
 use Rattle.rl_names.specs.Title.{user_name_of}
 use Rattle.rl_names.specs.declared.counted.Counted.TheVariants as counted
 use Rattle.rl_defs.specs.declared.draft.Draft.{Draft}
 use Rattle.rl_names.specs.Limits.{limit_of}
 use Rattle.rl_defs.specs.Refusal.{Refusal}
 use Rattle.rl_defs.specs.Refusal as breaches
-use Rattle.rl_defs.specs.Breach.{or_else, first_of, unless, unknown_in_module, unknown_in_table, unknown_at, unknown_field, bad_module_name, bad_admin}
+use Rattle.rl_defs.specs.Breach.{or_else, first_of, unless, unknown_at, unknown_among, unknown_field, bad_module_name, bad_admin}
 use Rattle.rl_defs.specs.Breach.{bad_skin, bad_name, too_many, too_many_dependencies, is_dependency, bad_dependency, bad_dependency_of, text_of, no_file}
 use Rattle.rl_defs.specs.Breach.{no_file_of, bad_source, listed_bytes, too_large, breach_of, first_breach, settled, reading_of, reading}
 use Rattle.rl_defs.specs.Catalogue.{Catalogue}
 use Rattle.rl_defs.specs.Draft.{draft_of}
-use Rattle.rl_defs.specs.Reading.{document, pairs}
+use Rattle.rl_defs.specs.Fields.{Place, InFile, InFiles, InModules, InWiki, InModule, Field, is_known, fields}
+use Rattle.rl_defs.specs.Reading.{document}
 use Rattle.rl_defs.specs.Words.{is_definable, is_skin}
 
 abbrev pub IsOfDefinitions : Refusal → Type 0
@@ -36,10 +37,6 @@ of_unless : (b : Bool) (e : Refusal) → IsOfDefinitions e → IsOfBreach (unles
 of_unless true e h = tt
 of_unless false e h = h
 
-of_if : (b : Bool) (one other : Option Refusal) → IsOfBreach one → IsOfBreach other → IsOfBreach (if b then one else other)
-of_if true one other h k = h
-of_if false one other h k = k
-
 of_first : {X : Type 0} (xs : List X) (f : X → Option Refusal) → ((x : X) → IsOfBreach (f x)) → IsOfBreach (first_of f xs)
 of_first [] f h = tt
 of_first (x ∷ xs) f h = of_or (f x) (first_of f xs) (h x) (of_first xs f h)
@@ -49,26 +46,17 @@ of_each : {X : Type 0} (xs : List X) (test : X → Bool) (e : X → Refusal) →
     IsOfBreach (first_of (λ x. unless (test x) (e x)) xs)
 of_each xs test e h = of_first xs (λ x. unless (test x) (e x)) (λ x. of_unless (test x) (e x) (h x))
 
--- ---- tables and keys
+-- ---- fields
 
-of_fields : (owner : List ℕ) (test : List ℕ → Data → Bool) (ms : Members) →
-    IsOfBreach (first_of (λ (key, d). unless (test key d) (breaches.UnknownField owner key)) (pairs ms))
-of_fields owner test ms = of_first (pairs ms) (λ (key, d). unless (test key d) (breaches.UnknownField owner key))
-    (λ x. of_unless (test x.0 x.1) (breaches.UnknownField owner x.0) tt)
+of_unknown : (place : Place) (key : List ℕ) → IsOfDefinitions (unknown_at place key)
+of_unknown InFile key = tt
+of_unknown InFiles key = tt
+of_unknown InModules key = tt
+of_unknown InWiki key = tt
+of_unknown (InModule name) key = tt
 
-of_module : (x : List ℕ × Data) → IsOfBreach (unknown_in_module x)
-of_module (name, table ms) = of_fields name _ ms
-of_module (name, other) = tt
-
-of_table : (key : List ℕ) (ms : Members) → IsOfBreach (unknown_in_table key ms)
-of_table key ms =
-    of_if (bytes_eq key (codes "files")) _ _ (of_fields [] _ ms)
-    (of_if (bytes_eq key (codes "modules")) _ _ (of_first (pairs ms) unknown_in_module of_module)
-    (of_if (bytes_eq key (codes "wiki")) _ _ (of_fields [] _ ms) tt))
-
-of_top : (x : List ℕ × Data) → IsOfBreach (unknown_at x)
-of_top (key, table ms) = of_table key ms
-of_top (key, other) = tt
+of_fields : (fs : List Field) → IsOfBreach (unknown_among fs)
+of_fields fs = of_each fs is_known (λ f. unknown_at f.place f.key) (λ f. of_unknown f.place f.key)
 
 -- ---- the later checks
 
@@ -119,7 +107,7 @@ of_reading : (o : Option Members) → IsOfReading (reading_of o)
 of_reading None = tt
 of_reading (Some top) =
     of_settled (draft_of top) (first_breach top)
-    (of_or (unknown_field top) (breach_of (draft_of top)) (of_first (pairs top) unknown_at of_top) (of_draft (draft_of top)))
+    (of_or (unknown_field top) (breach_of (draft_of top)) (of_fields (fields top)) (of_draft (draft_of top)))
 
 pub reading_is_of_definitions : (bytes : List ℕ) → IsOfReading (reading bytes)
 reading_is_of_definitions bytes = of_reading (document bytes)

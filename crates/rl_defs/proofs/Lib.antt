@@ -2,4 +2,4 @@ pub mod CountingLemmas
 pub mod DraftsLemmas
 pub mod SearchLemmas
 pub mod SettlingLemmas
-pub mod TakingLemmas
+pub mod TakenLemmas

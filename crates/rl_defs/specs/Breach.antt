@@ -4,7 +4,7 @@
 -- their order: `files` before `modules` before `wiki`, and `admins` before `skins`.
 use Rattle.std.specs.Prelude.{ℕ, ◌-◌, ◌^◌, min, Bool, ◌&&◌, ◌||◌, nat_le, if◌then◌else◌, List, [], ◌∷◌, length, sum_by, find}
 use Rattle.std.specs.Prelude.{Option, Some, None, is_some, unwrap_or, option_map, Result, Ok, Err, bytes_eq, codes}
-use Rattle.toml.specs.Data.{Data, table, Members}
+use Rattle.toml.specs.Data.{Members}
 use Rattle.rl_names.specs.Limits.{limit_of}
 use Rattle.rl_names.specs.Name.{is_name}
 use Rattle.rl_names.specs.Title.{user_name_of}
@@ -14,10 +14,8 @@ use Rattle.rl_defs.specs.declared.draft.ModuleDraft.{ModuleDraft}
 use Rattle.rl_defs.specs.Refusal.{Refusal, NotToml, UnknownField, BadName, BadDependency, NoFile, TooMany, BadSource}
 use Rattle.rl_defs.specs.Catalogue.{Catalogue}
 use Rattle.rl_defs.specs.Draft.{draft_of, catalogue_of}
-use Rattle.rl_defs.specs.declared.fields.Fields.{Fields}
-use Rattle.rl_defs.specs.declared.fields.Fields.TheVariants.{Files, Module, Wiki}
-use Rattle.rl_defs.specs.Fields.{is_field}
-use Rattle.rl_defs.specs.Reading.{document, pairs}
+use Rattle.rl_defs.specs.Fields.{Place, InFile, InFiles, InModules, InWiki, InModule, Field, is_known, fields}
+use Rattle.rl_defs.specs.Reading.{document}
 use Rattle.rl_defs.specs.Words.{is_definable, is_skin, is_built_in, is_gadget}
 
 -- the first of two breaches
@@ -34,32 +32,24 @@ first_of breach_of (x ∷ xs) = or_else (breach_of x) (first_of breach_of xs)
 abbrev pub unless : Bool → Refusal → Option Refusal
 unless is_kept breach = if is_kept then None else Some breach
 
--- ---- tables and keys
+-- ---- fields
 
--- the first key of a table that is no field; the owner is a module's name, or empty outside modules
-abbrev pub unknown_in : List ℕ → Fields → Members → Option Refusal
-unknown_in owner fields ms = first_of (λ (key, d). unless (is_field fields key d) (UnknownField owner key)) (pairs ms)
+-- A field of a module is told by the module's name and its key; a module that is no table has no field to tell. Outside
+-- modules no module is told.
+abbrev pub unknown_at : Place → List ℕ → Refusal
+unknown_at InFile key = UnknownField [] key
+unknown_at InFiles key = UnknownField [] key
+unknown_at InModules key = UnknownField key []
+unknown_at InWiki key = UnknownField [] key
+unknown_at (InModule name) key = UnknownField name key
 
--- a module that is no table has no field to tell
-abbrev pub unknown_in_module : List ℕ × Data → Option Refusal
-unknown_in_module (name, table ms) = unknown_in name Module ms
-unknown_in_module (name, _) = Some (UnknownField name [])
+-- the first of these fields that is not known
+abbrev pub unknown_among : List Field → Option Refusal
+unknown_among fs = first_of (λ f. unless (is_known f) (unknown_at f.place f.key)) fs
 
-abbrev pub unknown_in_modules : Members → Option Refusal
-unknown_in_modules ms = first_of unknown_in_module (pairs ms)
-
-abbrev pub unknown_in_table : List ℕ → Members → Option Refusal
-unknown_in_table key ms =
-    if bytes_eq key (codes "files") then unknown_in [] Files ms
-    else (if bytes_eq key (codes "modules") then unknown_in_modules ms
-    else (if bytes_eq key (codes "wiki") then unknown_in [] Wiki ms else Some (UnknownField [] key)))
-
-abbrev pub unknown_at : List ℕ × Data → Option Refusal
-unknown_at (key, table ms) = unknown_in_table key ms
-unknown_at (key, _) = Some (UnknownField [] key)
-
+-- the first field of the file that is not known
 abbrev pub unknown_field : Members → Option Refusal
-unknown_field top = first_of unknown_at (pairs top)
+unknown_field top = unknown_among (fields top)
 
 -- ---- names
 

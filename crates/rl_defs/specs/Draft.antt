@@ -1,8 +1,8 @@
 -- What a definitions file says: as it is written, and as it is kept once every check has passed.
-use Rattle.std.specs.Prelude.{ℕ, ◌≤◌, Bool, ◌&&◌, List, [], ◌∷◌, map, unwrap_or, codes, true, false, IsTrue}
+use Rattle.std.specs.Prelude.{ℕ, ◌≤◌, Bool, ◌&&◌, List, [], ◌∷◌, map, None, unwrap_or, option_map, option_and_then, codes, true, false, IsTrue}
 use Rattle.std.specs.List.{list_all, filter_map}
-use Rattle.std.specs.Option.{option_map_or}
-use Rattle.toml.specs.Data.{Data, Members, no_members, as_str, as_table}
+use Rattle.std.specs.Option.{option_map_or, option_or}
+use Rattle.toml.specs.Data.{Data, Members, get_member, as_str, as_table}
 use Rattle.rl_defs.specs.declared.draft.Draft.{Draft}
 use Rattle.rl_defs.specs.declared.draft.ModuleDraft.{ModuleDraft}
 use Rattle.rl_defs.specs.declared.file.File.{File}
@@ -12,43 +12,64 @@ use Rattle.rl_names.specs.Name.{is_name}
 use Rattle.rl_names.specs.Title.{user_name_of}
 use Rattle.rl_defs.specs.Named.{AreNames}
 use Rattle.rl_defs.specs.Catalogue.{Catalogue}
-use Rattle.rl_defs.specs.Reading.{pairs, table_at, texts_at, text_at, number_at, is_feature, feature_at}
+use Rattle.rl_defs.specs.Reading.{pairs, inside, read_at, table_at, texts_of, number_of, is_feature, feature_of}
 
 abbrev pub file_draft : List ℕ × Data → File
 file_draft (name, d) = record { name = name; text = unwrap_or (as_str d) [] }
 
-abbrev pub module_draft : List ℕ × Data → ModuleDraft
-module_draft (name, d) = let ms = unwrap_or (as_table d) no_members in record {
-  name = name;
-  scripts = texts_at (codes "scripts") ms;
-  dependencies = texts_at (codes "dependencies") ms;
-  group = unwrap_or (text_at (codes "group") ms) [];
-  source = unwrap_or (text_at (codes "source") ms) (codes "local");
-  skip = feature_at (codes "skip") ms;
-}
-
 abbrev pub files_of : Members → List File
 files_of ms = map file_draft (pairs ms)
+
+-- a module of which nothing is said but its name
+abbrev pub named_alone : List ℕ → ModuleDraft
+named_alone name = record { name = name; scripts = []; dependencies = []; group = []; source = codes "local"; skip = None }
+
+-- a module with what a table says of it; what the table leaves out stays
+abbrev pub module_with : ModuleDraft → Members → ModuleDraft
+module_with m ms = record {
+  name = m.name;
+  scripts = read_at texts_of (codes "scripts") ms m.scripts;
+  dependencies = read_at texts_of (codes "dependencies") ms m.dependencies;
+  group = read_at as_str (codes "group") ms m.group;
+  source = read_at as_str (codes "source") ms m.source;
+  skip = option_or (option_and_then feature_of (get_member (codes "skip") ms)) m.skip;
+}
+
+abbrev pub module_draft : List ℕ × Data → ModuleDraft
+module_draft (name, d) = module_with (named_alone name) (inside d)
 
 abbrev pub modules_of : Members → List ModuleDraft
 modules_of ms = map module_draft (pairs ms)
 
-abbrev pub limit_of : Members → ℕ
-limit_of ms = unwrap_or (number_at (codes "limit") 200 4000 ms) 2000
+-- a draft with what the table `wiki` says
+abbrev pub wiki_with : Draft → Members → Draft
+wiki_with d ms = record {
+  admins = read_at texts_of (codes "admins") ms d.admins;
+  skins = read_at texts_of (codes "skins") ms d.skins;
+  limit = read_at (number_of 200 4000) (codes "limit") ms d.limit;
+  store_version = read_at (number_of 0 1000000) (codes "storeVersion") ms d.store_version;
+  files = d.files;
+  modules = d.modules;
+}
 
-abbrev pub store_version_of : Members → ℕ
-store_version_of ms = unwrap_or (number_at (codes "storeVersion") 0 1000000 ms) 1
+-- a draft with what the table of a file says
+abbrev pub draft_with : Draft → Members → Draft
+draft_with d top = let w = wiki_with d (table_at (codes "wiki") top) in record {
+  admins = w.admins;
+  skins = w.skins;
+  limit = w.limit;
+  store_version = w.store_version;
+  files = read_at (λ fs. option_map files_of (as_table fs)) (codes "files") top d.files;
+  modules = read_at (λ ms. option_map modules_of (as_table ms)) (codes "modules") top d.modules;
+}
+
+-- what is meant where a file says nothing
+abbrev pub empty_draft : Draft
+empty_draft = record { admins = []; skins = []; limit = 2000; store_version = 1; files = []; modules = [] }
 
 -- what the table of a file says
 abbrev pub draft_of : Members → Draft
-draft_of top = let wiki = table_at (codes "wiki") top in record {
-  admins = texts_at (codes "admins") wiki;
-  skins = texts_at (codes "skins") wiki;
-  limit = limit_of wiki;
-  store_version = store_version_of wiki;
-  files = files_of (table_at (codes "files") top);
-  modules = modules_of (table_at (codes "modules") top);
-}
+draft_of top = draft_with empty_draft top
 
 -- a module is skipped for a feature, or for nothing
 abbrev pub may_skip : ModuleDraft → Bool

@@ -6,4 +6,5 @@ pub mod Fields
 pub mod Named
 pub mod Reading
 pub mod Refusal
+pub mod Taken
 pub mod Words

@@ -13,7 +13,6 @@ ghost use Rattle.rl_defs.specs.Refusal.{refusal_told};
 use crate::checks::check_draft;
 use crate::draft::{Draft, settled_modules};
 use crate::error::CatalogError;
-use crate::fields::check_fields;
 use crate::file::File;
 use crate::language::Language;
 use crate::module_def::ModuleDef;
@@ -68,7 +67,6 @@ impl Catalog {
         ensures { Gives refusal_told result (reading bytes.now) }
     {
         let root = document(alloc, bytes)?;
-        check_fields(alloc, &root)?;
         let draft = Draft::of(alloc, root)?;
         check_draft(alloc, &draft)?;
         Ok(Catalog::of(alloc, draft)?)

@@ -1,18 +1,27 @@
 //! What definitions say as they are written, before their names are read.
-ghost use Rattle.std.specs.Prelude.{◌≡◌, ◌≤◌, map, string_bytes, unwrap_or, IfOk, IsTrue};
+//!
+//! One pass over the file's table takes the value of each field that is known into its place, and ends at the first field
+//! that is not. A field is known where one of the `take` below has its key and its value is of the field's kind.
+ghost use Rattle.std.specs.Prelude.{◌≡◌, is_some, map, string_bytes, unwrap_or, IfOk, IsTrue, OnOk, Some};
 ghost use Rattle.std.specs.List.{list_all};
+ghost use Rattle.std.specs.Option.{option_or};
+ghost use Rattle.rl_names.specs.Meant.{Checks};
 ghost use Rattle.rl_names.specs.Name.{is_name};
 ghost use Rattle.toml.specs.View.{view, table_view};
+ghost use Rattle.rl_defs.specs.Breach.{unknown_among};
+ghost use Rattle.rl_defs.specs.Draft as spec;
+ghost use Rattle.rl_defs.specs.Draft.{IsDraft, has_names, may_skip, module_of};
+ghost use Rattle.rl_defs.specs.Fields.{is_module_field, is_wiki_field, fields, fields_at, module_fields, modules_fields, top_fields, InFiles, InWiki};
 ghost use Rattle.rl_defs.specs.Named.{AreNames};
-ghost use Rattle.rl_defs.specs.Draft.{file_draft, module_draft, draft_of, files_of as files_in, modules_of as modules_in, limit_of as limit_in};
-ghost use Rattle.rl_defs.specs.Draft.{store_version_of as store_version_in, module_of, has_names, may_skip, IsDraft};
+ghost use Rattle.rl_defs.specs.Reading.{inside};
+ghost use Rattle.rl_defs.specs.Refusal.{refusal_told, UnknownField};
+ghost use Rattle.rl_defs.specs.Taken.{Takes, module_taken, wiki_taken, table_taken};
 
+use crate::error::CatalogError;
 use crate::file::File;
 use crate::module_def::ModuleDef;
 use crate::named::Named;
-use crate::reading::{
-    number_at, table_of, take_feature, take_table, take_text, take_texts, text_of,
-};
+use crate::reading::{feature_of, number_of, text_of, texts_of};
 use rl_names::{Name, NoMemory, Seq, Text};
 use std::alloc::Global;
 use toml::{Table, Value};
@@ -28,63 +37,144 @@ pub(crate) struct Draft {
     pub(crate) modules: Seq<ModuleDraft>,
 }
 
-impl Draft {
-    /// What a table says. Its texts move out of it.
-    pub(crate) fn of(alloc: Global, mut root: Table) -> Result<Draft, NoMemory>
-        ensures value { IfOk result (λ d. d ≡ draft_of (table_view root)) }
-        ensures orderly { IfOk result IsDraft }
-    {
-        let files = files_of(alloc, take_table(alloc, &mut root, "files"))?;
-        let modules = modules_of(alloc, take_table(alloc, &mut root, "modules"))?;
-        let mut wiki = take_table(alloc, &mut root, "wiki");
-        Ok(Draft {
-            admins: take_texts(alloc, &mut wiki, "admins")?,
-            skins: take_texts(alloc, &mut wiki, "skins")?,
-            limit: limit_of(&wiki),
-            store_version: store_version_of(&wiki),
-            files,
-            modules,
-        })
+/// Puts a value that was read into its place. False where none was.
+fn put<T: Drop>(place: &mut T, value: Option<T>) -> bool
+    ensures known { result ≡ is_some value }
+    ensures value { place.new ≡ unwrap_or value place.old }
+{
+    match value {
+        Some(value) => {
+            *place = value;
+            true
+        }
+        None => false,
     }
 }
 
-fn limit_of(wiki: &Table) -> u32
-    ensures value { result ≡ limit_in (table_view wiki.now) }
-    ensures least { 200 ≤ result }
-    ensures most { result ≤ 4000 }
+/// Puts a value that was read where there may be none. False where none was.
+fn put_some<T: Drop>(place: &mut Option<T>, value: Option<T>) -> bool
+    ensures known { result ≡ is_some value }
+    ensures value { place.new ≡ option_or value place.old }
 {
-    number_at(wiki, "limit", 200, 4000).unwrap_or(2000)
+    match value {
+        Some(value) => {
+            *place = Some(value);
+            true
+        }
+        None => false,
+    }
 }
 
-fn store_version_of(wiki: &Table) -> u32
-    ensures value { result ≡ store_version_in (table_view wiki.now) }
-    ensures most { result ≤ 1000000 }
+/// The refusal of a field of this module, or of none where the module's name is empty.
+fn unknown(alloc: Global, module: &str, field: &str) -> Result<CatalogError, NoMemory>
+    ensures { IfOk result (λ e. refusal_told e ≡ Some (UnknownField «module».now field.now)) }
 {
-    number_at(wiki, "storeVersion", 0, 1_000_000).unwrap_or(1)
+    Ok(CatalogError::UnknownField {
+        module: Text::of(alloc, module)?,
+        field: Text::of(alloc, field)?,
+    })
 }
 
-fn files_of(alloc: Global, table: Table) -> Result<Seq<File>, NoMemory>
-    ensures value { IfOk result (λ files. files ≡ files_in (table_view table)) }
+impl Draft {
+    /// What a file's table says, or its first field that is not known.
+    pub(crate) fn of(alloc: Global, root: Table) -> Result<Draft, CatalogError>
+        ensures value { Takes result (fields (table_view root)) (spec.draft_of (table_view root)) }
+        ensures orderly { IfOk result IsDraft }
+    {
+        let mut draft = Draft::empty(alloc);
+        'tables: for (key, value) in root {
+            draft.take(alloc, key.as_str(), value)?;
+        }
+        Ok(draft)
+    }
+
+    /// What is meant where a file says nothing.
+    fn empty(alloc: Global) -> Draft
+        ensures { result ≡ spec.empty_draft }
+    {
+        Draft {
+            admins: Seq::of(Vec::new(alloc)),
+            skins: Seq::of(Vec::new(alloc)),
+            limit: 2000,
+            store_version: 1,
+            files: Seq::of(Vec::new(alloc)),
+            modules: Seq::of(Vec::new(alloc)),
+        }
+    }
+
+    /// Takes a table of the file, or tells the first field of it that is not known.
+    fn take(&mut self, alloc: Global, key: &str, value: Value) -> Result<(), CatalogError>
+        requires { IsDraft self.old }
+        ensures told { Checks refusal_told result (unknown_among (top_fields (key.now, view value))) }
+        ensures value { OnOk result (self.new ≡ table_taken self.old key.now (inside (view value))) }
+        ensures orderly { OnOk result (IsDraft self.new) }
+    {
+        let Value::Table(table) = value else {
+            return Err(unknown(alloc, "", key)?);
+        };
+        match key {
+            "files" => {
+                self.files = files_of(alloc, table)?;
+                Ok(())
+            }
+            "modules" => {
+                self.modules = modules_of(alloc, table)?;
+                Ok(())
+            }
+            "wiki" => self.take_wiki(alloc, table),
+            _ => Err(unknown(alloc, "", key)?),
+        }
+    }
+
+    /// Takes what the table `wiki` says, or tells its first field that is not known.
+    fn take_wiki(&mut self, alloc: Global, table: Table) -> Result<(), CatalogError>
+        ensures told { Checks refusal_told result (unknown_among (fields_at InWiki (table_view table))) }
+        ensures value { OnOk result (self.new ≡ spec.wiki_with self.old (table_view table)) }
+    {
+        'fields: for (key, value) in table {
+            if !self.take_of_wiki(alloc, key.as_str(), value)? {
+                return Err(unknown(alloc, "", key.as_str())?);
+            }
+        }
+        Ok(())
+    }
+
+    /// Takes the value of a field of the table `wiki`. False where it is not known.
+    fn take_of_wiki(&mut self, alloc: Global, key: &str, value: Value) -> Result<bool, NoMemory>
+        ensures known { IfOk result (λ known. known ≡ is_wiki_field key.now (view value)) }
+        ensures value { OnOk result (self.new ≡ wiki_taken self.old key.now (view value)) }
+    {
+        match key {
+            "admins" => Ok(put(&mut self.admins, texts_of(alloc, value)?)),
+            "skins" => Ok(put(&mut self.skins, texts_of(alloc, value)?)),
+            "limit" => Ok(put(&mut self.limit, number_of(&value, 200, 4000))),
+            "storeVersion" => Ok(put(&mut self.store_version, number_of(&value, 0, 1_000_000))),
+            _ => Ok(false),
+        }
+    }
+}
+
+/// The files of a table, or its first field that is not known.
+fn files_of(alloc: Global, table: Table) -> Result<Seq<File>, CatalogError>
+    ensures value { Takes result (fields_at InFiles (table_view table)) (spec.files_of (table_view table)) }
     ensures names { IfOk result (λ files. AreNames (map (λ f. f.name) files)) }
 {
     let mut files = Vec::with_capacity(alloc, table.len())?;
     'files: for (name, value) in table {
-        files.push(file_of(alloc, name, value)?)?;
+        let Some(text) = text_of(value) else {
+            return Err(unknown(alloc, "", name.as_str())?);
+        };
+        files.push(File {
+            name: Text::from_string(name),
+            text,
+        })?;
     }
     Ok(Seq::of(files))
 }
 
-fn file_of(alloc: Global, name: String, value: Value) -> Result<File, NoMemory>
-    ensures { IfOk result (λ f. f ≡ file_draft (string_bytes name, view value)) }
-{
-    Ok(File {
-        name: Text::from_string(name),
-        text: or_else(alloc, text_of(value), "")?,
-    })
-}
-
-fn modules_of(alloc: Global, table: Table) -> Result<Seq<ModuleDraft>, NoMemory>
-    ensures value { IfOk result (λ modules. modules ≡ modules_in (table_view table)) }
+/// The modules of a table, or the first field in it that is not known.
+fn modules_of(alloc: Global, table: Table) -> Result<Seq<ModuleDraft>, CatalogError>
+    ensures value { Takes result (modules_fields (table_view table)) (spec.modules_of (table_view table)) }
     ensures names { IfOk result (λ modules. AreNames (map (λ m. m.name) modules)) }
     ensures features { IfOk result (λ modules. IsTrue (list_all may_skip modules)) }
 {
@@ -93,16 +183,6 @@ fn modules_of(alloc: Global, table: Table) -> Result<Seq<ModuleDraft>, NoMemory>
         modules.push(ModuleDraft::of(alloc, name, value)?)?;
     }
     Ok(Seq::of(modules))
-}
-
-/// The text, or another where it is absent.
-fn or_else(alloc: Global, text: Option<Text>, absent: &str) -> Result<Text, NoMemory>
-    ensures { IfOk result (λ t. t ≡ unwrap_or text absent.now) }
-{
-    match text {
-        Some(text) => Ok(text),
-        None => Text::of(alloc, absent),
-    }
 }
 
 /// What a definitions file says of one module, as it is written.
@@ -117,19 +197,49 @@ pub(crate) struct ModuleDraft {
 }
 
 impl ModuleDraft {
-    /// What a module's table says. Its texts move out of it.
-    fn of(alloc: Global, name: String, value: Value) -> Result<ModuleDraft, NoMemory>
-        ensures { IfOk result (λ m. m ≡ module_draft (string_bytes name, view value)) }
+    /// What a module's table says, or its first field that is not known.
+    fn of(alloc: Global, name: String, value: Value) -> Result<ModuleDraft, CatalogError>
+        ensures { Takes result (module_fields (string_bytes name, view value)) (spec.module_draft (string_bytes name, view value)) }
     {
-        let mut table = table_of(alloc, value);
+        let Value::Table(table) = value else {
+            return Err(unknown(alloc, name.as_str(), "")?);
+        };
+        let mut module = ModuleDraft::named(alloc, name)?;
+        'fields: for (key, value) in table {
+            if !module.take(alloc, key.as_str(), value)? {
+                return Err(unknown(alloc, module.name.as_str(), key.as_str())?);
+            }
+        }
+        Ok(module)
+    }
+
+    /// A module of which nothing is said but its name.
+    fn named(alloc: Global, name: String) -> Result<ModuleDraft, NoMemory>
+        ensures { IfOk result (λ m. m ≡ spec.named_alone (string_bytes name)) }
+    {
         Ok(ModuleDraft {
             name: Text::from_string(name),
-            scripts: take_texts(alloc, &mut table, "scripts")?,
-            dependencies: take_texts(alloc, &mut table, "dependencies")?,
-            group: or_else(alloc, take_text(&mut table, "group"), "")?,
-            source: or_else(alloc, take_text(&mut table, "source"), "local")?,
-            skip: take_feature(&mut table, "skip"),
+            scripts: Seq::of(Vec::new(alloc)),
+            dependencies: Seq::of(Vec::new(alloc)),
+            group: Text::of(alloc, "")?,
+            source: Text::of(alloc, "local")?,
+            skip: None,
         })
+    }
+
+    /// Takes the value of a field. False where it is not known.
+    fn take(&mut self, alloc: Global, key: &str, value: Value) -> Result<bool, NoMemory>
+        ensures known { IfOk result (λ known. known ≡ is_module_field key.now (view value)) }
+        ensures value { OnOk result (self.new ≡ module_taken self.old key.now (view value)) }
+    {
+        match key {
+            "scripts" => Ok(put(&mut self.scripts, texts_of(alloc, value)?)),
+            "dependencies" => Ok(put(&mut self.dependencies, texts_of(alloc, value)?)),
+            "group" => Ok(put(&mut self.group, text_of(value))),
+            "source" => Ok(put(&mut self.source, text_of(value))),
+            "skip" => Ok(put_some(&mut self.skip, feature_of(value))),
+            _ => Ok(false),
+        }
     }
 }
 

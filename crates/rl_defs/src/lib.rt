@@ -5,7 +5,6 @@ pub mod catalog;
 mod checks;
 mod draft;
 pub mod error;
-mod fields;
 pub mod file;
 pub mod language;
 pub mod module_def;
