@@ -16,7 +16,7 @@ use Rattle.rl_wire.proofs.LinesLemmas.{answers_say_parts}
 use Rattle.rl_defs.specs.Catalogue.{Catalogue}
 use Rattle.rl_loadphp.specs.declared.answers.Answer.{Answer}
 use Rattle.rl_loadphp.specs.declared.answers.AnswerError.{AnswerError}
-use Rattle.rl_loadphp.specs.Answer.{answer_to, asked, sent}
+use Rattle.rl_loadphp.specs.Answer.{answer_of, answer_to, answered, asked, sent}
 use Rattle.rl_loadphp.specs.Refusal.{Refusal, QueryTooLong, TooManyNames, AnswerTooLong, refusal_told}
 use Rattle.rl_loadphp.specs.Served.{missing, query_context, served}
 use Rattle.rl_loadphp.specs.Body.{body_of, parts_of}
@@ -65,3 +65,10 @@ answer_says c bytes q made (Ok a) is is_made parts gives =
     let whole : a ≡ answer_to c q = unsent (nat_lt (limit_of AnswerBytes) (length made.body)) (AnswerTooLong (length made.body)) made a gives ∙ is_made in
     let Q : Query → Type 0 = λ x. SaysParts x a.body in
     subst Q (asked_is bytes q is) (says c q a whole parts)
+
+pub answer_gives : (c : Catalogue) (bytes : List ℕ) (q : Query) (made : Answer) (r : Result Answer AnswerError) → asked bytes ≡ Ok q
+    → made ≡ answer_to c q → Gives refusal_told r (sent made) → Gives refusal_told r (answer_of c bytes)
+answer_gives c bytes q made r is is_made gives =
+    let P : Answer → Type 0 = λ x. Gives refusal_told r (sent x) in
+    let Q : Result Query Refusal → Type 0 = λ x. Gives refusal_told r (answered c x) in
+    subst Q (sym is) (subst P is_made gives)
