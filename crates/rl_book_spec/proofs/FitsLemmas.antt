@@ -5,7 +5,6 @@ use Rattle.std.proofs.Common.{
   zero,
   suc,
   ◌+◌,
-  ◌-◌,
   ◌<◌,
   ◌≤◌,
   ◌⊎◌,
@@ -27,12 +26,10 @@ use Rattle.std.proofs.Common.{
   ⊎_elim,
   arith,
   take,
-  replicate,
   length-append,
 }
 use Rattle.std.specs.Prelude.{◌/◌, ◌%◌, ◌==◌, Contains, bytes_eq, codes, flat_map, fold, if◌then◌else◌, nat_eq, nat_lt, nat_le}
 use Rattle.std.specs.Char.{digit_char}
-use Rattle.std.specs.Fmt.{digits_onto}
 use Rattle.std.specs.List.{AllByRecursion, list_all, range_with_len}
 use Rattle.std.proofs.lemmas.Bool.{and_parts, eqb-true, leb-true}
 use Rattle.std.proofs.lemmas.Bool.Decides.{nat_tests}
@@ -40,7 +37,7 @@ use Rattle.std.proofs.lemmas.List.{map-append}
 use Rattle.std.proofs.lemmas.List.FromFn.{get_or-range_with_len}
 use Rattle.form_urlencoded.specs.Form.{append_pair, byte_serialize, separator, is_nonempty}
 use Rattle.percent_encoding.specs.Percent.{percent_encode_byte}
-use Rattle.rl_names.specs.Hash.{base_36, combined, fnv, hash_5}
+use Rattle.rl_names.specs.Hash.{base_36, combined, digit_count, fnv, hash_5}
 use Rattle.rl_names.specs.Packing.{pack, packed_order}
 use Rattle.rl_names.specs.Query.{only_text, query_text}
 use Rattle.rl_names.specs.QuerySteps.{with_parameter}
@@ -161,14 +158,6 @@ unfolding Spare
 spare_append [] ys a b = b
 spare_append (x ∷ xs) ys a b = (a.0, spare_append xs ys a.1 b)
 
-spare_none : Spare []
-unfolding Spare
-spare_none = tt
-
-spare_one : (b : ℕ) → encoded_len (b ∷ []) ≡ 1 → Spare (b ∷ [])
-unfolding Spare
-spare_one b one = (one, tt)
-
 spare_take : (k : ℕ) (xs : Text) → Spare xs → Spare (take k xs)
 unfolding Spare
 spare_take zero xs a = tt
@@ -187,26 +176,14 @@ spare_digits = refl
 digit_there : (d : ℕ) → d < 36 → Contains (range_with_len 0 36) d
 digit_there d low = let plain : 0 + d ≡ d = omega arith in (d, low, get_or-range_with_len 0 36 d d low ∙ plain)
 
-spare_low : (d : ℕ) → d < 36 → encoded_len (digit_char d ∷ []) ≡ 1
-spare_low d low = eqb-true (encoded_len (digit_char d ∷ [])) 1 (all_each (λ (d : ℕ). encoded_len (digit_char d ∷ []) == 1) (range_with_len 0 36)
-    d spare_digits (digit_there d low))
+spare_digit : (n : ℕ) → encoded_len (digit_char (n % 36) ∷ []) ≡ 1
+spare_digit n = eqb-true (encoded_len (digit_char (n % 36) ∷ [])) 1 (all_each (λ (d : ℕ). encoded_len (digit_char d ∷ []) == 1) (range_with_len 0 36)
+    (n % 36) spare_digits (digit_there (n % 36) (omega arith)))
 
-spare_either : (b : Bool) (xs ys : Text) → Spare xs → Spare ys → Spare (if b then xs else ys)
-spare_either true xs ys x y = x
-spare_either false xs ys x y = y
-
-spare_digits_onto : (most n : ℕ) (behind : Text) → Spare behind → Spare (digits_onto most 36 false n behind)
-spare_digits_onto zero n behind spare = spare
-spare_digits_onto (suc most) n behind spare =
-    let digit : ℕ = digit_char (n % 36) in
-    let more : Spare (digit ∷ behind) = spare_append (digit ∷ []) behind (spare_one digit (spare_low (n % 36) (omega arith))) spare in
-    spare_either (n / 36 == 0) (digit ∷ behind) (digits_onto most 36 false (n / 36) (digit ∷ behind)) more
-    (spare_digits_onto most (n / 36) (digit ∷ behind) more)
-
-spare_zeros : (count : ℕ) → Spare (replicate count 48)
+spare_base : (count n : ℕ) → Spare (base_36 count n)
 unfolding Spare
-spare_zeros zero = tt
-spare_zeros (suc count) = (spare_low 0 (omega arith), spare_zeros count)
+spare_base zero n = tt
+spare_base (suc count) n = spare_append (base_36 count (n / 36)) (digit_char (n % 36) ∷ []) (spare_base count (n / 36)) (spare_digit n, tt)
 
 take_most : (k : ℕ) (xs : Text) → length (take k xs) ≤ k
 take_most zero xs = omega arith
@@ -215,11 +192,9 @@ take_most (suc k) (x ∷ xs) = let later = take_most k xs in omega (arith, later
 
 hash_len : (bytes : Text) → encoded_len (hash_5 bytes) ≤ 5
 hash_len bytes =
-    let digits : Text = base_36 (fnv bytes) in
-    let zeros : Text = replicate (5 - length digits) 48 in
-    let spare = spare_append zeros digits (spare_zeros (5 - length digits)) (spare_digits_onto 64 (fnv bytes) [] spare_none) in
-    let same = spare_len (take 5 (zeros ++ digits)) (spare_take 5 (zeros ++ digits) spare) in
-    let most = take_most 5 (zeros ++ digits) in
+    let digits : Text = base_36 (digit_count (fnv bytes)) (fnv bytes) in
+    let same = spare_len (take 5 digits) (spare_take 5 digits (spare_base (digit_count (fnv bytes)) (fnv bytes))) in
+    let most = take_most 5 digits in
     omega (arith, same, most)
 
 -- ---- batches

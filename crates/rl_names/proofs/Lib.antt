@@ -1,7 +1,6 @@
 pub mod AsciiLemmas
 pub mod CutLemmas
 pub mod CountingLemmas
-pub mod HashLemmas
 pub mod NameLemmas
 pub mod KeyLemmas
 pub mod PackingLemmas

@@ -1,7 +1,7 @@
 //! The hash that versions are made by: FNV-1 of 32 bits, written with five digits in base 36.
-ghost use Rattle.std.specs.Prelude.{◌≡◌, ◌<◌, ◌^◌, List, ℕ, [], ◌++◌, IsTrue, fold};
+ghost use Rattle.std.specs.Prelude.{◌≡◌, ◌<◌, List, ℕ, [], ◌++◌, IsTrue, fold};
 ghost use Rattle.std.specs.Char.{digit_char};
-ghost use Rattle.rl_names.specs.Hash.{fnv, fnv_step, hash_5, combined as combined_of, version_of_hash};
+ghost use Rattle.rl_names.specs.Hash.{fnv, fnv_step, hash_5, combined as combined_of, version_of_hash, base_36};
 ghost use Rattle.rl_names.specs.Name.{is_version_byte};
 
 use crate::name::Version;
@@ -74,17 +74,17 @@ fn digit(value: u32) -> u8
 
 /// The hash without the digits after the fifth.
 fn leading(hash: u32) -> u32
-    ensures few { result < 36 ^ 5 }
-    ensures same { version_of_hash result ≡ version_of_hash hash }
+    ensures { base_36 5 result ≡ version_of_hash hash }
 {
-    let mut rest = hash;
-    while rest >= 36u32.pow(5) {
-        rest /= 36;
+    if hash < 36u32.pow(5) {
+        hash
+    } else if hash < 36u32.pow(6) {
+        hash / 36
+    } else {
+        hash / 36 / 36
     }
-    rest
 }
 
-#[tactic(auto, using(crate::proofs::HashLemmas::few_version))]
 fn version_of(hash: u32) -> Version
     ensures { result ≡ version_of_hash hash }
 {
