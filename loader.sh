@@ -26,6 +26,19 @@ progress() {
         END { if (n) print "" }' >&2
 }
 
+# How many crates the program rests on, itself among them.
+crate_count() {
+    awk -F: '/^[a-z]/ { split($1, name, " "); needs[name[1]] = $2 }
+        function visit(crate,    all, n, i) {
+            if (!(crate in needs) || crate in seen) return
+            seen[crate]
+            count++
+            n = split(needs[crate], all, " ")
+            for (i = 1; i <= n; i++) visit(all[i])
+        }
+        END { visit("loader"); print count }' "$top/crates.txt"
+}
+
 is_built() {
     [ -x "$program" ] && [ "$program" -nt "$top/crates.txt" ] && [ -z "$(find "$top/crates" \( -name out -o -name 'bench_*' \) -prune -o \
         \( -name '*.rt' -o -name '*.antt' \) -newer "$program" -print -quit)" ]
@@ -48,7 +61,7 @@ if ! is_built; then
     log=$(mktemp) || exit 1
     # a program that is as it was is not written again, and would seem old for ever
     rm -f "$program"
-    crates=$(grep '^[a-z]' "$top/crates.txt" | grep -vc '^bench_')
+    crates=$(crate_count)
     (cd "$top/crates/loader" && rt run -- --version) 2>&1 | tee "$log" | progress "$crates"
     if [ ! -x "$program" ]; then
         cat "$log" >&2

@@ -111,7 +111,7 @@ def clause_of(crate, function, clause):
     for path in sorted((TOP / "crates" / crate / "src").glob("**/*.rt")):
         text = path.read_text(encoding="utf-8")
         found = re.search(r"\bfn " + re.escape(function) + r"\b(.*?)^\s*\{$", text, re.S | re.M)
-        said = found and re.search(r"ensures " + re.escape(clause) + r" \{(.*)\}", found[1])
+        said = found and re.search(r"ensures " + re.escape(clause) + r" \{(.*?)\}\s*(?=ensures |requires |//|\Z)", found[1], re.S)
         if said:
             return said[1], File(text)
     sys.exit(f"reach.py: {crate} has no function {function} with a clause {clause}")

@@ -1,10 +1,11 @@
 //! The program `loader`: the top call over the files of the system and standard output.
 #![tactic(auto)]
 
-use rl_base::{DirTree, Reason, StdSink};
+use rl_base::{DirTree, Observer, Reason, Recorder, StdSink};
 use rl_cli::{Report, Status, run};
 use rl_defs::CatalogError;
-use std::alloc::AllocError;
+use rl_names::{Name, NameError};
+use std::alloc::{AllocError, Global};
 use std::env;
 use std::io::ErrorKind;
 use std::process::ExitCode;
@@ -18,6 +19,10 @@ loader: both ends of a wiki's loader of scripts
   loader load DEFS - - QUERY    what a wiki of these definitions answers to a query
   loader --help                 this text
   loader --version              the version of the program
+
+Before the words of a command there may be options, any number of times:
+
+  --throw NAME                  the script of the module NAME throws where it executes
 
 A file word may lead anywhere that the user may read; one that does not begin with `/`
 leads from the current folder. The status is 0, or 2 where words or a file are at fault,
@@ -53,29 +58,61 @@ fn print(rt: &HostRuntime, text: &str) -> End {
     }
 }
 
-/// Does what the words say.
-fn answer(rt: &HostRuntime, words: &[&str]) -> End {
+/// Does what the words say. What executes throws for the modules of these names.
+fn answer(rt: &HostRuntime, words: &[&str], thrown: Vec<Name>) -> Result<End, AllocError> {
     match words.first() {
-        Some(&"--help") => print(rt, HELP),
-        Some(&"--version") => print(rt, VERSION),
+        Some(&"--help") => Ok(print(rt, HELP)),
+        Some(&"--version") => Ok(print(rt, VERSION)),
         _ => {
             let alloc = rt.alloc();
             let mut tree = DirTree::new(rt, alloc);
             let mut out = StdSink::new(rt);
-            let ended = run(alloc, words, &mut tree, &mut out, Vec::new(alloc));
+            let mut observers: Vec<Box<dyn Observer + Send>> = Vec::new(alloc);
+            if !thrown.is_empty() {
+                observers.push(Box::new(alloc, Recorder::new(alloc, thrown))?)?;
+            }
+            let ended = run(alloc, words, &mut tree, &mut out, observers);
             let reason = match ended.status {
                 Status::ReadFault => tree.reason(),
                 Status::WriteFault => out.reason(),
                 _ => None,
             };
-            End {
+            Ok(End {
                 status: ended.status,
                 word: ended.word,
                 breach: ended.breach,
                 reason,
-            }
+            })
         }
     }
+}
+
+/// The name of an option `--throw`, if these words are one.
+fn thrown_name(alloc: Global, words: &[String]) -> Result<Option<Name>, AllocError> {
+    let [option, name] = words else {
+        return Ok(None);
+    };
+    if option.as_str() != "--throw" {
+        return Ok(None);
+    }
+    match Name::read(alloc, name.as_bytes()) {
+        Ok(name) => Ok(Some(name)),
+        Err(NameError::NoMemory) => Err(AllocError),
+        Err(_) => Ok(None),
+    }
+}
+
+/// The names of the options `--throw` at the front of the words. The first that is no such option, or whose name is
+/// missing or bad, ends them.
+fn thrown_names(alloc: Global, words: &[String]) -> Result<Vec<Name>, AllocError> {
+    let mut names = Vec::new(alloc);
+    for pair in words.chunks_exact(2) {
+        match thrown_name(alloc, pair)? {
+            Some(name) => names.push(name)?,
+            None => return Ok(names),
+        }
+    }
+    Ok(names)
 }
 
 /// Says on standard error what is wrong, if anything is, and gives the exit code.
@@ -102,11 +139,12 @@ fn ended(rt: &HostRuntime, words: &[&str], end: End) -> ExitCode {
 
 /// Answers the words of a command line.
 fn answered(rt: &HostRuntime, texts: &[String]) -> Result<ExitCode, AllocError> {
+    let thrown = thrown_names(rt.alloc(), texts)?;
     let mut words = Vec::with_capacity(rt.alloc(), texts.len())?;
-    for text in texts {
+    for text in texts.iter().skip(thrown.len().saturating_mul(2)) {
         words.push(text.as_str())?;
     }
-    let end = answer(rt, words.as_slice());
+    let end = answer(rt, words.as_slice(), thrown)?;
     Ok(ended(rt, words.as_slice(), end))
 }
 

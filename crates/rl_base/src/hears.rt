@@ -1,93 +1,9 @@
-//! Observers together: each is told of what runs, in their order.
-ghost use Rattle.std.specs.Prelude.{◌≡◌, ◌++◌, ◌∷◌, [], ℕ, List, Bool, Some, OnOk, OnErr, IfOk, map, All};
-ghost use Rattle.std.specs.List.{list_any};
+//! Observers together: whoever is told of what runs.
+ghost use Rattle.std.specs.Prelude.{◌≡◌, ℕ, List, Bool, OnOk, OnErr, IfOk, map};
 ghost use Rattle.rl_names.specs.declared.name.Key.{Key};
 ghost use Rattle.rl_base.specs.Execution.{Execution, told_of};
 
-use crate::observer::Observer;
 use rl_names::{Key, NoMemory};
-
-/// Makes room in one observer.
-fn make_room_of(
-    observer: &mut Box<dyn Observer + Send>,
-    key: &Key,
-    script: &[u8],
-) -> Result<(), NoMemory>
-    ensures room { OnOk result (room_for observer.new ≡ Some (key.now, script.now)) }
-    ensures told_nothing { ran observer.new ≡ ran observer.old }
-    ensures fixed { (k : Key) (s : List ℕ) → throws observer.new k s ≡ throws observer.old k s }
-    ensures same { (observer.new.ptr ≡ observer.old.ptr) × (observer.new.vtable ≡ observer.old.vtable) }
-{
-    observer.make_room(key, script)
-}
-
-/// Tells one observer.
-fn execute_of(observer: &mut Box<dyn Observer + Send>, key: &Key, script: &[u8]) -> bool
-    requires { room_for observer.old ≡ Some (key.now, script.now) }
-    ensures told { ran observer.new ≡ ran observer.old ++ (key.now, script.now) ∷ [] }
-    ensures threw { result ≡ throws observer.old key.now script.now }
-    ensures fixed { (k : Key) (s : List ℕ) → throws observer.new k s ≡ throws observer.old k s }
-    ensures same { (observer.new.ptr ≡ observer.old.ptr) × (observer.new.vtable ≡ observer.old.vtable) }
-{
-    observer.execute(key, script)
-}
-
-/// Makes room for an execution in each observer. They are the same boxes in the same order.
-fn make_room_each(
-    observers: &mut [Box<dyn Observer + Send>],
-    key: &Key,
-    script: &[u8],
-) -> Result<(), NoMemory>
-    ensures room { OnOk result (All (λ o. room_for o ≡ Some (key.now, script.now)) observers.new) }
-    ensures told_nothing { map (λ o. ran o) observers.new ≡ map (λ o. ran o) observers.old }
-    ensures fixed { (k : Key) (s : List ℕ)
-        → map (λ o. throws o k s) observers.new ≡ map (λ o. throws o k s) observers.old }
-    ensures same { (map (λ o. o.ptr) observers.new ≡ map (λ o. o.ptr) observers.old)
-        × (map (λ o. o.vtable) observers.new ≡ map (λ o. o.vtable) observers.old) }
-{
-    for observer in observers {
-        make_room_of(observer, key, script)?;
-    }
-    Ok(())
-}
-
-/// Tells each observer of the execution for which all have room, and answers whether one throws. They are the same
-/// boxes in the same order.
-fn execute_each(observers: &mut [Box<dyn Observer + Send>], key: &Key, script: &[u8]) -> bool
-    requires { All (λ o. room_for o ≡ Some (key.now, script.now)) observers.old }
-    ensures told { map (λ o. ran o) observers.new
-        ≡ map (told_of (key.now, script.now)) (map (λ o. ran o) observers.old) }
-    ensures threw { result ≡ list_any (λ o. throws o key.now script.now) observers.old }
-    ensures fixed { (k : Key) (s : List ℕ)
-        → map (λ o. throws o k s) observers.new ≡ map (λ o. throws o k s) observers.old }
-    ensures same { (map (λ o. o.ptr) observers.new ≡ map (λ o. o.ptr) observers.old)
-        × (map (λ o. o.vtable) observers.new ≡ map (λ o. o.vtable) observers.old) }
-{
-    let mut threw = false;
-    for observer in observers {
-        threw |= execute_of(observer, key, script);
-    }
-    threw
-}
-
-/// Makes room in each observer and then tells each of them. Where there is no room, none is told.
-pub fn tell_each(
-    observers: &mut [Box<dyn Observer + Send>],
-    key: &Key,
-    script: &[u8],
-) -> Result<bool, NoMemory>
-    ensures told { OnOk result (map (λ o. ran o) observers.new
-        ≡ map (told_of (key.now, script.now)) (map (λ o. ran o) observers.old)) }
-    ensures threw { IfOk result (λ threw. threw ≡ list_any (λ o. throws o key.now script.now) observers.old) }
-    ensures refused { OnErr result (map (λ o. ran o) observers.new ≡ map (λ o. ran o) observers.old) }
-    ensures fixed { (k : Key) (s : List ℕ)
-        → map (λ o. throws o k s) observers.new ≡ map (λ o. throws o k s) observers.old }
-    ensures same { (map (λ o. o.ptr) observers.new ≡ map (λ o. o.ptr) observers.old)
-        × (map (λ o. o.vtable) observers.new ≡ map (λ o. o.vtable) observers.old) }
-{
-    make_room_each(observers, key, script)?;
-    Ok(execute_each(observers, key, script))
-}
 
 /// Whoever is told of runs: observers together.
 pub trait Hears: Drop {
@@ -107,20 +23,4 @@ pub trait Hears: Drop {
         ensures threw { IfOk result (λ threw. threw ≡ says self.old key.now script.now) }
         ensures fixed { (k : Key) (s : List ℕ) → says self.new k s ≡ says self.old k s }
         ensures same { (first : Self) → same first self.old → same first self.new };
-}
-
-impl Hears for Vec<Box<dyn Observer + Send>> {
-    ghost told = { λ v. map (λ o. (Observer-box o).ran o.value) v.items };
-
-    ghost says = { λ v k s. list_any (λ o. (Observer-box o).throws o.value k s) v.items };
-
-    ghost same = { λ first v. (map (λ o. o.ptr) v.items ≡ map (λ o. o.ptr) first.items)
-        × (map (λ o. o.vtable) v.items ≡ map (λ o. o.vtable) first.items)
-        × ((k : Key) (s : List ℕ)
-        → map (λ o. (Observer-box o).throws o.value k s) v.items
-        ≡ map (λ o. (Observer-box o).throws o.value k s) first.items) };
-
-    fn hear(&mut self, key: &Key, script: &[u8]) -> Result<bool, NoMemory> {
-        tell_each(self.as_mut_slice(), key, script)
-    }
 }

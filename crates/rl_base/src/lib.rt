@@ -18,7 +18,7 @@ pub mod sink;
 pub mod tree;
 
 pub use fault::{Faults, Reason};
-pub use hears::{Hears, tell_each};
+pub use hears::Hears;
 pub use memory::{MemSink, MemTree};
 pub use observer::Observer;
 pub use real::{DirTree, StdSink, hand, read_front};

@@ -1,7 +1,6 @@
-//! What the real forms hand on of a reader and a writer that go byte by byte, and what observers are told.
+//! What the real forms hand on of a reader and a writer that go byte by byte, and what a recorder is told.
 
 use crate::fault::{Faults, Reason};
-use crate::hears::Hears;
 use crate::observer::Observer;
 use crate::real::{hand, read_front};
 use crate::recorder::Recorder;
@@ -80,20 +79,15 @@ fn bytes_are_those_of_the_reader(rt: HostRuntime) -> Result<(), Fail> {
     Ok(())
 }
 
-/// Each of two observers is told once, and one of them throws.
+/// It throws for the name that it was given, and counts what it was told.
 #[test]
-fn observers_are_told(rt: HostRuntime) -> Result<(), Fail> {
+fn a_recorder_is_told(rt: HostRuntime) -> Result<(), Fail> {
     let alloc = rt.alloc();
-    let mut names = Vec::new(alloc);
-    names.push(Name::read(alloc, b"B")?)?;
-    let mut observers: Vec<Box<dyn Observer + Send>> = Vec::new(alloc);
-    observers.push(Box::new(alloc, Recorder::new(alloc, names))?)?;
-    observers.push(Box::new(alloc, Recorder::new(alloc, Vec::new(alloc)))?)?;
-    assert!(rt; observers.hear(&Key::split(alloc, b"B@bbbbb")?, b"b()")?);
-    assert!(rt; !observers.hear(&Key::split(alloc, b"A@aaaaa")?, b"a()")?);
-    for observer in &observers {
-        let recorder = observer.recorder().ok_or("a recorder")?;
-        assert_eq!(rt; recorder.count(), 2);
-    }
+    let names = vec![in alloc; Name::read(alloc, b"B")?]?;
+    let key = Key::split(alloc, b"B@bbbbb")?;
+    let mut recorder = Recorder::new(alloc, names);
+    recorder.make_room(&key, b"b()")?;
+    assert!(rt; recorder.execute(&key, b"b()"));
+    assert_eq!(rt; recorder.count(), 1);
     Ok(())
 }

@@ -1,43 +1,7 @@
 -- Batches that are cut off one by one.
-use Rattle.std.proofs.Common.{
-  ◌≡◌,
-  ◌≤◌,
-  ◌<◌,
-  ◌+◌,
-  ◌-◌,
-  ◌⊎◌,
-  ℕ,
-  zero,
-  suc,
-  List,
-  [],
-  ◌∷◌,
-  ◌++◌,
-  Bool,
-  true,
-  false,
-  ◌&&◌,
-  refl,
-  ap,
-  ap₂,
-  sym,
-  subst,
-  ◌∙◌,
-  length,
-  get_or,
-  arith,
-  map,
-  take,
-  drop,
-  Bor,
-  append_assoc,
-  ⊎_elim,
-  inl,
-  inr,
-  Option,
-  Some,
-  None,
-}
+use Rattle.std.proofs.Common.{◌≡◌, ◌≤◌, ◌<◌, ◌+◌, ◌-◌, ◌⊎◌, ℕ, zero, suc, List, [], ◌∷◌, ◌++◌, Bool, true}
+use Rattle.std.proofs.Common.{false, ◌&&◌, refl, ap, ap₂, sym, subst, ◌∙◌, length, get_or, arith, map, take, drop, Bor, append_assoc}
+use Rattle.std.proofs.Common.{⊎_elim, inl, inr, Option, Some, None}
 use Rattle.std.specs.Prelude.{All, Contains, bytes_eq, flat_map, nat_eq, nat_le, option_map, slice_get}
 use Rattle.std.specs.List.{AllByRecursion, cons_option}
 use Rattle.std.specs.List.Sorted.{IsPermutation}
@@ -48,30 +12,17 @@ use Rattle.std.proofs.lemmas.List.Elements.{All-from_recursion, All-take, All-dr
 use Rattle.std.proofs.lemmas.List.Sorted.{IsPermutation-map}
 use Rattle.rl_names.specs.Query.{query_text}
 use Rattle.rl_names.specs.declared.query.Query.{Query}
-use Rattle.rl_names.specs.declared.row.Group.{Group}
-use Rattle.rl_names.specs.declared.row.Group.TheVariants.{Plain, User, Private, Other}
 use Rattle.rl_names.specs.declared.row.Row.{Row}
 use Rattle.rl_view_spec.specs.Closure.{Text, Registered}
 use Rattle.rl_view_spec.proofs.ToolsLemmas.{all_each, contains_head, contains_tail, place_there}
-use Rattle.rl_book_spec.specs.Batches.{
-  Numbered,
-  added_len,
-  base_in,
-  base_len,
-  batch_of,
-  collected_len,
-  group_rank,
-  is_one_split,
-  names_in,
-  query_for,
-  rows_of_batches,
-  source_name,
-}
+use Rattle.rl_book_spec.specs.Batches.{Numbered, added_len, base_in, base_len, batch_of, collected_len, group_rank, is_one_split, names_in, query_for}
+use Rattle.rl_book_spec.specs.Batches.{rows_of_batches, source_name}
 use Rattle.rl_book_spec.specs.declared.Batch.{Batch}
 use Rattle.rl_book_spec.proofs.BatchesLemmas.{batches_hold_rows}
-use Rattle.rl_book_spec.proofs.FitsLemmas.{queries_fit}
+use Rattle.rl_book_spec.proofs.FitsLemmas.{queries_fit, same_rank}
 use Rattle.rl_batch.specs.Given.{numbered_rows, AskFor, IsBase}
 use Rattle.rl_batch.specs.Split.{AreOf, Fills, cuts, fits, goes, head_source, numbers_in, seen}
+use Rattle.rl_batch.proofs.CountedLemmas.{all_taken}
 use Rattle.rl_batch.proofs.CutsLemmas.{map_take, map_drop}
 
 pub of_part : (r : Registered) (rows : List (ℕ × Bor Row)) (n m k : ℕ) → AreOf r (map seen rows) → AreOf r (map seen (take n (take m (drop k rows))))
@@ -83,10 +34,6 @@ of_part r rows n m k of = record {
       (All-drop (λ (numbered : Numbered). slice_get r.rows numbered.0 ≡ Some numbered.1) k (map seen rows) of.there)));
   distinct = of.distinct;
 }
-
-all_taken : {X : Type 0} (xs : List X) → take (length xs) xs ≡ xs
-all_taken [] = refl
-all_taken {X = X} (x ∷ xs) = ap (λ (ys : List X). x ∷ ys) (all_taken xs)
 
 drop_long : {X : Type 0} (k : ℕ) (xs : List X) → length (drop k xs) ≡ length xs - k
 drop_long zero xs = omega arith
@@ -110,24 +57,6 @@ pub within_more : (rows : List (ℕ × Bor Row)) (k count : ℕ) → k < length 
 within_more rows k count low most = let a = ap length (rest_is rows k) in let b = drop_long k rows in omega (arith, a, b, low, most)
 
 -- ---- one base for a batch
-
-same_rank : (base : Query) (a b : Group) → group_rank a ≡ group_rank b → base_in base a ≡ base_in base b
-same_rank base Plain Plain e = refl
-same_rank base Plain User e = absurd (omega (arith, e))
-same_rank base Plain Private e = refl
-same_rank base Plain (Other n) e = refl
-same_rank base User Plain e = absurd (omega (arith, e))
-same_rank base User User e = refl
-same_rank base User Private e = absurd (omega (arith, e))
-same_rank base User (Other n) e = absurd (omega (arith, e))
-same_rank base Private Plain e = refl
-same_rank base Private User e = absurd (omega (arith, e))
-same_rank base Private Private e = refl
-same_rank base Private (Other n) e = refl
-same_rank base (Other n) Plain e = refl
-same_rank base (Other n) User e = absurd (omega (arith, e))
-same_rank base (Other n) Private e = refl
-same_rank base (Other n) (Other m) e = refl
 
 agrees : (base : Query) (limit : ℕ) (first : Numbered) (batch : List Numbered) (x : Numbered) → goes base limit (first ∷ batch) x
     ≡ fits (base_len base first.1) limit (first ∷ batch) x

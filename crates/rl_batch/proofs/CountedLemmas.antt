@@ -1,35 +1,6 @@
 -- The rows of one batch, counted one by one.
-use Rattle.std.proofs.Common.{
-  ◌≡◌,
-  ◌≤◌,
-  ◌<◌,
-  ◌+◌,
-  ◌-◌,
-  ℕ,
-  zero,
-  suc,
-  List,
-  [],
-  ◌∷◌,
-  ◌++◌,
-  Bool,
-  true,
-  false,
-  ◌&&◌,
-  ◌||◌,
-  refl,
-  ap,
-  ap₂,
-  sym,
-  ◌∙◌,
-  length,
-  get_or,
-  arith,
-  map,
-  take,
-  drop,
-  Bor,
-}
+use Rattle.std.proofs.Common.{◌≡◌, ◌≤◌, ◌<◌, ◌+◌, ◌-◌, ℕ, zero, suc, List, [], ◌∷◌, ◌++◌, Bool, true, false}
+use Rattle.std.proofs.Common.{◌&&◌, ◌||◌, refl, ap, ap₂, sym, ◌∙◌, length, get_or, arith, map, take, drop, Bor}
 use Rattle.std.specs.Prelude.{bytes_eq, if◌then◌else◌, nat_eq, nat_le}
 use Rattle.std.specs.List.{list_all, list_any}
 use Rattle.std.proofs.lemmas.Bool.{and_parts, eqb-true}
@@ -146,7 +117,7 @@ fills_here base limit rows (suc i) x low is pos fit opened joins first more e ag
     ∙ sym (ap (λ (xs : List Numbered). fits base limit xs x) (take_first rows more first i e)) ∙ fit)
     ∙ ap (λ (ys : List Numbered). take (suc i) rows ∷ cuts joins ys) (sym dropped)
 
-all_taken : {X : Type 0} (xs : List X) → take (length xs) xs ≡ xs
+pub all_taken : {X : Type 0} (xs : List X) → take (length xs) xs ≡ xs
 all_taken [] = refl
 all_taken {X = X} (x ∷ xs) = ap (λ (ys : List X). x ∷ ys) (all_taken xs)
 

@@ -1,36 +1,12 @@
 -- Rows of different numbers have different names, in whatever order they stand.
-use Rattle.std.proofs.Common.{
-  ◌≡◌,
-  ◌≢◌,
-  ◌<◌,
-  ◌+◌,
-  ℕ,
-  zero,
-  suc,
-  List,
-  [],
-  ◌∷◌,
-  Bool,
-  true,
-  false,
-  refl,
-  ap,
-  sym,
-  subst,
-  ◌∙◌,
-  length,
-  get_or,
-  arith,
-  Option,
-  Some,
-  None,
-}
+use Rattle.std.proofs.Common.{◌≡◌, ◌≢◌, ◌<◌, ◌+◌, ℕ, suc, List, [], ◌∷◌, Bool, true, false, refl, ap, sym, subst}
+use Rattle.std.proofs.Common.{◌∙◌, length, get_or, arith, Option, Some, None}
 use Rattle.std.specs.Prelude.{All, AllPairs, bytes_eq, nat_eq, slice_get}
 use Rattle.std.specs.List.{AllByRecursion, IsDistinct, cons_option}
 use Rattle.std.specs.List.Sorted.{IsPermutation, IsSortedBy}
 use Rattle.std.specs.Ordering.{nat_cmp, is_lt, is_eq, ordering_reverse, ordering_then}
 use Rattle.std.specs.Cmp.Lexicographic.{slice_cmp}
-use Rattle.std.specs.Option.{option_map, option_map_or}
+use Rattle.std.specs.Option.{option_map}
 use Rattle.std.specs.declared.cmp.Ordering.{Ordering}
 use Rattle.std.specs.declared.cmp.Ordering.TheVariants.{Less, Equal, Greater}
 use Rattle.std.proofs.lemmas.Bool.{both_ways}
@@ -39,11 +15,12 @@ use Rattle.std.proofs.lemmas.List.Elements.{All-from_recursion}
 use Rattle.std.proofs.lemmas.List.Sorted.{sorted_far, ranks_by}
 use Rattle.std.proofs.lemmas.Map.Keys.{IsDistinct-IsPermutation, IsDistinct-from_apart}
 use Rattle.std.proofs.lemmas.Map.Text.{is_eq-slice_cmp}
+use Rattle.std.proofs.lemmas.Option.{slice_get_within}
 use Rattle.rl_names.specs.declared.row.Row.{Row}
 use Rattle.rl_view_spec.specs.Closure.{Text, Registered}
-use Rattle.rl_view_spec.specs.Progress.{HasDistinctNames, name_at}
+use Rattle.rl_view_spec.specs.Progress.{HasDistinctNames}
 use Rattle.rl_view_spec.proofs.ChainsLemmas.{same}
-use Rattle.rl_view_spec.proofs.PlacesLemmas.{apart, bytes_eq-from}
+use Rattle.rl_view_spec.proofs.PlacesLemmas.{apart, bytes_eq-from, name_there}
 use Rattle.rl_book_spec.specs.Batches.{Numbered, is_before, row_cmp, split_cmp, sorted_by}
 use Rattle.rl_book_spec.proofs.SortedLemmas.{Ascends, AreApart, sorted_is}
 use Rattle.rl_batch.proofs.OrdersLemmas.{before_strict, rows_total}
@@ -71,18 +48,10 @@ text_flips a b = step (bytes_eq a b) (bytes_eq b a) refl refl
 pub flips : (a b : Numbered) → alike a b ≡ alike b a
 flips a b = text_flips a.1.name b.1.name
 
-there_low : {X : Type 0} (xs : List X) (k : ℕ) (x : X) → slice_get xs k ≡ Some x → k < length xs
-there_low [] k x e = cc
-there_low (y ∷ xs) zero x e = omega arith
-there_low (y ∷ xs) (suc k) x e = let later = there_low xs k x e in omega (arith, later)
-
-named : (r : Registered) (k : ℕ) (x : Row) → slice_get r.rows k ≡ Some x → name_at r k ≡ x.name
-named r k x e = ap (λ (o : Option Row). option_map_or (λ found. found.name) o []) e
-
 other_name : (r : Registered) → HasDistinctNames r → (n m : ℕ) (a b : Row) → slice_get r.rows n ≡ Some a → slice_get r.rows m ≡ Some b
     → nat_eq n m ≡ false → bytes_eq a.name b.name ≡ false
 other_name r d n m a b e f h = not_equal a.name b.name (λ s.
-    let is = apart r d n m (there_low r.rows n a e) (there_low r.rows m b f) (named r n a e ∙ s ∙ sym (named r m b f)) in
+    let is = apart r d n m (slice_get_within r.rows n a e) (slice_get_within r.rows m b f) (name_there r n a e ∙ s ∙ sym (name_there r m b f)) in
     absurd (both_ways (nat_eq n m) h (grind (arith, nat_tests, is))))
 
 apart_from : (r : Registered) → HasDistinctNames r → (n : ℕ) (a : Row) → slice_get r.rows n ≡ Some a → (rows : List ℕ)

@@ -1,39 +1,7 @@
 -- How batches and asks are kept through each change.
-use Rattle.std.proofs.Common.{
-  ◌≡◌,
-  ℕ,
-  zero,
-  suc,
-  ◌+◌,
-  ◌<◌,
-  ◌≤◌,
-  ◌^◌,
-  List,
-  [],
-  ◌∷◌,
-  ◌++◌,
-  Bool,
-  true,
-  false,
-  ◌&&◌,
-  not,
-  length,
-  map,
-  get_or,
-  Option,
-  Some,
-  None,
-  refl,
-  ap,
-  ap₂,
-  sym,
-  subst,
-  ◌∙◌,
-  arith,
-  append-nil,
-  length-append,
-  length-set,
-}
+use Rattle.std.proofs.Common.{◌≡◌, ℕ, zero, suc, ◌+◌, ◌<◌, ◌≤◌, ◌^◌, List, [], ◌∷◌, ◌++◌, Bool, true, false}
+use Rattle.std.proofs.Common.{◌&&◌, not, length, map, get_or, Option, Some, None, refl, ap, ap₂, sym, subst, ◌∙◌, arith, append-nil}
+use Rattle.std.proofs.Common.{length-append, length-set}
 use Rattle.std.specs.Prelude.{◌==◌, All, fold, if◌then◌else◌, nat_le, slice_get, slice_set}
 use Rattle.std.specs.List.{range_with_len}
 use Rattle.std.specs.Option.{option_map_or}

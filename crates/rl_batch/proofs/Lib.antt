@@ -1,4 +1,4 @@
-mod KeptLemmas
+pub mod KeptLemmas
 mod CutsLemmas
 mod OrdersLemmas
 mod DistinctLemmas

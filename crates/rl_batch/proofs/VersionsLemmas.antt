@@ -1,5 +1,5 @@
 -- The version of a name of a batch is that of its row in the registry.
-use Rattle.std.proofs.Common.{◌≡◌, ℕ, List, [], ◌∷◌, refl, ap, ap₂, sym, subst, ◌∙◌, ⊎_elim, map, Option, Some}
+use Rattle.std.proofs.Common.{◌≡◌, ℕ, List, [], ◌∷◌, refl, ap, ap₂, sym, subst, ◌∙◌, ⊎_elim, Option, Some}
 use Rattle.std.specs.Prelude.{All, Contains, bytes_eq, flat_map, option_and_then, slice_get}
 use Rattle.std.specs.List.{filter_map, cons_option}
 use Rattle.std.specs.Option.{option_map_or}
@@ -12,18 +12,14 @@ use Rattle.rl_view_spec.specs.Numbers.{number_of}
 use Rattle.rl_view_spec.specs.Progress.{name_at}
 use Rattle.rl_view_spec.proofs.ChainsLemmas.{same}
 use Rattle.rl_view_spec.proofs.PlacesLemmas.{bytes_eq-from}
-use Rattle.rl_view_spec.proofs.ToolsLemmas.{contains_cases, contains_head, contains_none, contains_tail, filter_contains, found_in, found_place, some_found}
+use Rattle.rl_view_spec.proofs.ToolsLemmas.{contains_head, contains_none, contains_tail, filter_contains, found_in, found_place, some_found}
 use Rattle.rl_rows.proofs.EdgesLemmas.{number_is}
 use Rattle.rl_book_spec.specs.Batches.{Numbered, names_in, version_in, versions_in}
+use Rattle.rl_book_spec.proofs.ListsLemmas.{map_has}
 use Rattle.rl_batch.specs.Split.{AreOf, version_at}
 
 all_in : {X : Type 0} (P : X → Type 0) (xs : List X) (x : X) → All P xs → Contains xs x → P x
 all_in P xs x all c = subst P c.2 (all c.0 x c.1)
-
-in_map : {X Y : Type 0} (f : X → Y) (xs : List X) (y : Y) → Contains (map f xs) y → (x : X) × Contains xs x × (f x ≡ y)
-in_map f [] y c = absurd (contains_none y c)
-in_map {X = X} f (x ∷ xs) y c = ⊎_elim (λ e. (x, contains_head x xs, e)) (λ t. let m = in_map f xs y t in (m.0, contains_tail x xs m.0 m.1, m.2))
-    (contains_cases (f x) (map f xs) y c)
 
 ordered_in : (names fs : List Text) (n : Text) → Contains (flat_map (group_of names) fs) n → Contains names n
 ordered_in names [] n c = absurd (contains_none n c)
@@ -37,7 +33,7 @@ filter_map_same {Y = Y} f g (x ∷ xs) h = ap₂ (λ (o : Option Y) (ys : List Y
 
 one_version : (r : Registered) (rows : List Numbered) (n : Text) → AreOf r rows → Contains (names_in rows) n → version_at r n ≡ version_in rows n
 one_version r rows n of c =
-    let m = in_map (λ (numbered : Numbered). numbered.1.name) rows n c in
+    let m = map_has (λ (numbered : Numbered). numbered.1.name) rows n c in
     let f = some_found (λ (numbered : Numbered). bytes_eq numbered.1.name n) rows m.0 m.1 (bytes_eq-from m.0.1.name n m.2) in
     let y = f.0 in
     let there : slice_get r.rows y.0 ≡ Some y.1 = all_in (λ (numbered : Numbered). slice_get r.rows numbered.0 ≡ Some numbered.1) rows y of.there

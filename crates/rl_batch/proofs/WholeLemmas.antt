@@ -1,26 +1,6 @@
 -- All rows of a registry may be asked for, where none is private.
-use Rattle.std.proofs.Common.{
-  ◌≡◌,
-  ◌<◌,
-  ◌+◌,
-  ◌++◌,
-  ◌∷◌,
-  [],
-  ℕ,
-  zero,
-  suc,
-  List,
-  Option,
-  IsTrue,
-  false,
-  not,
-  length,
-  ap,
-  ◌∙◌,
-  arith,
-  get_or,
-}
-use Rattle.std.specs.Prelude.{All}
+use Rattle.std.proofs.Common.{◌≡◌, ◌<◌, ◌+◌, ◌++◌, ◌∷◌, [], ℕ, zero, suc, List, Option, IsTrue, false, not, length, ap}
+use Rattle.std.proofs.Common.{◌∙◌, arith, get_or}
 use Rattle.std.specs.List.{list_all, range_with_len}
 use Rattle.std.specs.Option.{option_map_or}
 use Rattle.std.proofs.lemmas.Bool.{not-true}

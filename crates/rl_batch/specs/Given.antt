@@ -1,24 +1,6 @@
 -- Rows that a registry is asked for, and what is promised of their batches.
-use Rattle.std.specs.Prelude.{
-  ◌≡◌,
-  ◌≢◌,
-  ◌≤◌,
-  ◌<◌,
-  ◌⊎◌,
-  ◌^◌,
-  ℕ,
-  List,
-  [],
-  Bool,
-  false,
-  All,
-  AllPairs,
-  IsFalse,
-  length,
-  flat_map,
-  option_map,
-  slice_get,
-}
+use Rattle.std.specs.Prelude.{◌≡◌, ◌≢◌, ◌≤◌, ◌<◌, ◌⊎◌, ◌^◌, ℕ, List, [], Bool, false, All, AllPairs, IsFalse}
+use Rattle.std.specs.Prelude.{length, flat_map, option_map, slice_get}
 use Rattle.std.specs.List.{filter_map}
 use Rattle.std.specs.List.Sorted.{IsPermutation}
 use Rattle.std.specs.Option.{option_map_or}

@@ -1,28 +1,6 @@
 -- Sorted rows cut where a row does not go on with those before it.
-use Rattle.std.specs.Prelude.{
-  ◌≡◌,
-  ℕ,
-  ◌<◌,
-  ◌+◌,
-  ◌&&◌,
-  ◌==◌,
-  ◌∷◌,
-  [],
-  ◌++◌,
-  List,
-  drop,
-  take,
-  Bool,
-  All,
-  if◌then◌else◌,
-  bytes_eq,
-  map,
-  nat_le,
-  option_and_then,
-  slice_get,
-  Option,
-  Some,
-}
+use Rattle.std.specs.Prelude.{◌≡◌, ℕ, ◌<◌, ◌+◌, ◌&&◌, ◌==◌, ◌∷◌, [], ◌++◌, List, drop, take, Bool, All}
+use Rattle.std.specs.Prelude.{if◌then◌else◌, bytes_eq, map, nat_le, option_and_then, slice_get, Option, Some}
 use Rattle.std.specs.Borrow.{Bor}
 use Rattle.rl_names.specs.declared.query.Query.{Query}
 use Rattle.rl_names.specs.declared.row.Row.{Row}

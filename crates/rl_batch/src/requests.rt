@@ -102,7 +102,8 @@ pub fn is_settled(sent: &Sent) -> bool
 }
 
 impl Requests {
-    ghost use Rattle.std.specs.Prelude.{◌≡◌, ◌<◌, [], length, IfOk, OnOk, OnErr, is_none, not, option_and_then, option_map, slice_get};
+    ghost use Rattle.std.specs.Prelude.{◌≡◌, ◌<◌, ◌≤◌, [], length, IfNone, IfOk, IfSome, OnOk, OnErr, is_none, not, option_and_then};
+    ghost use Rattle.std.specs.Prelude.{option_map, slice_get};
     ghost use Rattle.rl_book_spec.specs.Traffic.{all_settled, asked_of, after_delivery, after_loss, with_ask, with_batches};
     ghost use Rattle.rl_batch.specs.Requests.{MayBeLost};
 
@@ -181,7 +182,9 @@ impl Requests {
 
     /// An ask and its batch.
     pub fn asked(&self, ask: u32) -> Option<(Asked, &Sent)>
-        ensures { option_map (λ pair. (pair.0, pair.1.now)) result ≡ asked_of self.now ask }
+        ensures value { option_map (λ pair. (pair.0, pair.1.now)) result ≡ asked_of self.now ask }
+        ensures within { IfSome result (λ pair. ask < length self.now.asks) }
+        ensures beyond { IfNone result (length self.now.asks ≤ ask) }
     {
         match self.asks.get(ask as usize) {
             Some(asked) => Some((*asked, &self.batches[asked.batch as usize])),

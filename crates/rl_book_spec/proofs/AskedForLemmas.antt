@@ -1,53 +1,8 @@
 -- A touched row without an outcome is asked for by a batch that is not settled, where answers are whole.
-use Rattle.std.proofs.Common.{
-  ◌≡◌,
-  ℕ,
-  zero,
-  suc,
-  ◌+◌,
-  List,
-  [],
-  ◌∷◌,
-  ◌++◌,
-  Bool,
-  true,
-  false,
-  ◌&&◌,
-  ◌||◌,
-  not,
-  length,
-  map,
-  Option,
-  Some,
-  None,
-  refl,
-  ap,
-  sym,
-  subst,
-  ◌∙◌,
-  ◌⊎◌,
-  ⊎_elim,
-  inl,
-  inr,
-  arith,
-}
-use Rattle.std.specs.Prelude.{
-  Contains,
-  slice_get,
-  slice_set,
-  filter,
-  option_map,
-  is_some,
-  is_none,
-  if◌then◌else◌,
-  nat_le,
-  nat_lt,
-  nat_eq,
-  bytes_eq,
-  Result,
-  Ok,
-  Err,
-}
+use Rattle.std.proofs.Common.{◌≡◌, ℕ, zero, suc, ◌+◌, List, [], ◌∷◌, ◌++◌, Bool, true, false, ◌&&◌, ◌||◌, not, length}
+use Rattle.std.proofs.Common.{map, Option, Some, None, refl, ap, sym, subst, ◌∙◌, ◌⊎◌, ⊎_elim, inl, inr, arith}
+use Rattle.std.specs.Prelude.{Contains, slice_get, slice_set, filter, option_map, is_some, is_none, if◌then◌else◌, nat_le, nat_lt, nat_eq}
+use Rattle.std.specs.Prelude.{bytes_eq, Result, Ok, Err}
 use Rattle.std.specs.List.{enumerate_from, list_any}
 use Rattle.std.specs.Option.{option_map_or}
 use Rattle.std.proofs.lemmas.Bool.{and_from, or_left, both_ways, cases_Bool, eqb-true, eqb-false, false_from_ne_true, not_from_false, true_from_ne_false}
@@ -59,6 +14,7 @@ use Rattle.rl_view_spec.specs.Closure.{Text, Registered, closure_rows, has_featu
 use Rattle.rl_view_spec.specs.Progress.{name_at}
 use Rattle.rl_view_spec.specs.View.{View, Event, Answer, GivenUp, Throws, answer_in, or_else, is_touched, touches, first_of}
 use Rattle.rl_view_spec.proofs.ChainsLemmas.{same}
+use Rattle.rl_view_spec.proofs.DepsLemmas.{contains_filter_map}
 use Rattle.rl_view_spec.proofs.PlacesLemmas.{alike, bytes_eq-from, name_there, skip_there, skips_alike}
 use Rattle.rl_view_spec.proofs.ToolsLemmas.{any_one, one_any, all_each, each_all, contains_map, contains_filter, found_place, place_in, place_there, some_found}
 use Rattle.rl_wire.specs.Reading as wire
@@ -68,26 +24,8 @@ use Rattle.rl_book_spec.specs.Book.{nothing, bring, given_up, parts_for, request
 use Rattle.rl_book_spec.specs.Laws.{IsAskedFor, IsWhole, AnswersAreWhole, TouchedIsAskedFor, SettledIsAnswered}
 use Rattle.rl_book_spec.specs.Opening.{Opening, answer_at_touch, answer_of, part_name, part_of, view_of}
 use Rattle.rl_view_spec.specs.Requests.{accepted, accepted_each}
-use Rattle.rl_book_spec.specs.Traffic.{
-  Traffic,
-  after_answer,
-  after_loss,
-  all_settled,
-  asked_of,
-  batches_for,
-  fresh,
-  holds,
-  is_given_up,
-  is_left,
-  is_settled,
-  may_be_lost,
-  requested_by,
-  traffic_of,
-  with_batches,
-  with_delivery,
-  with_loss,
-  without,
-}
+use Rattle.rl_book_spec.specs.Traffic.{Traffic, after_answer, after_loss, all_settled, asked_of, batches_for, fresh, holds, is_given_up, is_left}
+use Rattle.rl_book_spec.specs.Traffic.{is_settled, may_be_lost, requested_by, traffic_of, with_batches, with_delivery, with_loss, without}
 use Rattle.rl_book_spec.specs.declared.Asked.{Asked}
 use Rattle.rl_book_spec.specs.declared.Sent.{Sent}
 use Rattle.rl_book_spec.specs.declared.Batch.{Batch}
@@ -95,7 +33,7 @@ use Rattle.rl_book_spec.specs.declared.Call.{Call}
 use Rattle.rl_book_spec.specs.declared.Call.TheVariants.{Using, Load, Take, Deliver, Lose}
 use Rattle.rl_book_spec.proofs.BatchesLemmas.{in_a_batch}
 use Rattle.rl_book_spec.proofs.LawfulLemmas.{event_requests, requests_touch}
-use Rattle.rl_book_spec.proofs.ListsLemmas.{contains_filter_map, get_behind, get_front, get_set, get_set_other, numbered}
+use Rattle.rl_book_spec.proofs.ListsLemmas.{get_behind, get_front, get_set, get_set_other, numbered}
 
 -- ---- an event answers a name
 
@@ -109,13 +47,13 @@ answered name event answer c =
 abbrev has_first : View → List Event → Text → Bool
 has_first v past name = is_some (first_of v past name)
 
+pub still_some : (before later : Option Answer) → is_some before ≡ true → is_some (or_else before later) ≡ true
+still_some None later h = cc
+still_some (Some answer) later h = refl
+
 first_stays : (v : View) (event : Event) (past : List Event) (name : Text) → has_first v past name ≡ true → has_first v (event ∷ past) name ≡ true
-first_stays v event past name h = step (first_of v past name) (if is_touched v (event ∷ past) name && not (is_skipped v.registered name)
-    then answer_in name event else None) h
-  where
-    step : (o later : Option Answer) → is_some o ≡ true → is_some (or_else o later) ≡ true
-    step None later e = cc
-    step (Some answer) later e = refl
+first_stays v event past name = still_some (first_of v past name)
+    (if is_touched v (event ∷ past) name && not (is_skipped v.registered name) then answer_in name event else None)
 
 first_comes : (v : View) (event : Event) (past : List Event) (name : Text) → is_touched v (event ∷ past) name ≡ true → is_skipped v.registered name
     ≡ false → is_some (answer_in name event) ≡ true → has_first v (event ∷ past) name ≡ true

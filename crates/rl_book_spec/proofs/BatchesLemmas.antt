@@ -1,29 +1,6 @@
 -- Batches hold the rows that they are made of.
-use Rattle.std.proofs.Common.{
-  ◌≡◌,
-  ℕ,
-  ◌<◌,
-  List,
-  [],
-  ◌∷◌,
-  ◌++◌,
-  Bool,
-  true,
-  false,
-  ◌⊎◌,
-  length,
-  refl,
-  ap,
-  sym,
-  subst,
-  ◌∙◌,
-  inl,
-  inr,
-  ⊎_elim,
-  arith,
-  append-nil,
-  append_assoc,
-}
+use Rattle.std.proofs.Common.{◌≡◌, ℕ, ◌<◌, List, [], ◌∷◌, ◌++◌, Bool, true, false, ◌⊎◌, length, refl, ap, sym, subst}
+use Rattle.std.proofs.Common.{◌∙◌, inl, inr, ⊎_elim, arith, append-nil, append_assoc}
 use Rattle.std.specs.Prelude.{Contains, flat_map, fold, if◌then◌else◌}
 use Rattle.std.specs.List.Sorted.{IsPermutation}
 use Rattle.std.proofs.lemmas.List.Sorted.{IsPermutation-refl, IsPermutation-cons, IsPermutation-insert, IsPermutation-trans, Contains-permutation}
@@ -86,7 +63,7 @@ batches_hold_rows base limit rows =
 abbrev AllFilled : {X : Type 0} → List (List X) → Type 0
 AllFilled {X} batches = (batch : List X) → Contains batches batch → 0 < length batch
 
-pushed_filled : {X : Type 0} (xs : List X) (x : X) → 0 < length (xs ++ x ∷ [])
+pub pushed_filled : {X : Type 0} (xs : List X) (x : X) → 0 < length (xs ++ x ∷ [])
 pushed_filled [] x = omega arith
 pushed_filled (y ∷ xs) x = omega arith
 

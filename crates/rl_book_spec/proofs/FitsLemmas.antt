@@ -1,35 +1,8 @@
 -- Queries stay within the limit, but for those that ask for one row.
-use Rattle.std.proofs.Common.{
-  ◌≡◌,
-  ℕ,
-  zero,
-  suc,
-  ◌+◌,
-  ◌<◌,
-  ◌≤◌,
-  ◌⊎◌,
-  List,
-  [],
-  ◌∷◌,
-  ◌++◌,
-  Bool,
-  true,
-  false,
-  ◌&&◌,
-  length,
-  refl,
-  ap,
-  subst,
-  ◌∙◌,
-  inl,
-  inr,
-  ⊎_elim,
-  arith,
-  take,
-  length-append,
-}
+use Rattle.std.proofs.Common.{◌≡◌, ℕ, zero, suc, ◌+◌, ◌-◌, ◌<◌, ◌≤◌, ◌⊎◌, List, [], ◌∷◌, ◌++◌, Bool, true}
+use Rattle.std.proofs.Common.{false, ◌&&◌, length, cond, replicate, refl, ap, subst, ◌∙◌, inl, inr, ⊎_elim, arith, take, length-append}
 use Rattle.std.specs.Prelude.{◌/◌, ◌%◌, ◌==◌, Contains, bytes_eq, codes, flat_map, fold, if◌then◌else◌, nat_eq, nat_lt, nat_le}
-use Rattle.std.specs.Char.{digit_char}
+use Rattle.std.specs.Fmt.{digit_glyph, digits, digits_onto}
 use Rattle.std.specs.List.{AllByRecursion, list_all, range_with_len}
 use Rattle.std.proofs.lemmas.Bool.{and_parts, eqb-true, leb-true}
 use Rattle.std.proofs.lemmas.Bool.Decides.{nat_tests}
@@ -37,7 +10,7 @@ use Rattle.std.proofs.lemmas.List.{map-append}
 use Rattle.std.proofs.lemmas.List.FromFn.{get_or-range_with_len}
 use Rattle.form_urlencoded.specs.Form.{append_pair, byte_serialize, separator, is_nonempty}
 use Rattle.percent_encoding.specs.Percent.{percent_encode_byte}
-use Rattle.rl_names.specs.Hash.{base_36, combined, digit_count, fnv, hash_5}
+use Rattle.rl_names.specs.Hash.{base_36, combined, fnv, hash_5, padded, version_of_hash}
 use Rattle.rl_names.specs.Packing.{pack, packed_order}
 use Rattle.rl_names.specs.Query.{only_text, query_text}
 use Rattle.rl_names.specs.QuerySteps.{with_parameter}
@@ -47,25 +20,10 @@ use Rattle.rl_names.specs.declared.row.Group.TheVariants.{Plain, User, Private, 
 use Rattle.rl_names.proofs.QueryWrittenLemmas.{in_steps, up_to_lang, up_to_only, up_to_user}
 use Rattle.rl_view_spec.specs.Closure.{Text}
 use Rattle.rl_view_spec.proofs.ToolsLemmas.{all_each, contains_cases, contains_head, contains_none, contains_tail}
-use Rattle.rl_book_spec.specs.Batches.{
-  Numbered,
-  added_len,
-  base_in,
-  base_len,
-  batch_of,
-  collect,
-  collected_len,
-  encoded_len,
-  goes_on,
-  group_rank,
-  is_before,
-  is_one_split,
-  names_in,
-  sorted_by,
-  source_name,
-  versions_in,
-}
+use Rattle.rl_book_spec.specs.Batches.{Numbered, added_len, base_in, base_len, batch_of, collect, collected_len, encoded_len, goes_on, group_rank}
+use Rattle.rl_book_spec.specs.Batches.{is_before, is_one_split, names_in, sorted_by, source_name, versions_in}
 use Rattle.rl_book_spec.specs.Laws.{QueriesFit}
+use Rattle.rl_book_spec.proofs.BatchesLemmas.{pushed_filled}
 use Rattle.rl_book_spec.proofs.LengthsLemmas.{collected_more, len_append, len_nothing, packed_collected}
 
 -- ---- parameters
@@ -169,21 +127,38 @@ unfolding Spare
 spare_len [] a = len_nothing
 spare_len (x ∷ xs) a = let whole = len_append (x ∷ []) xs in let later = spare_len xs a.1 in omega (arith, whole, later, a.0)
 
-spare_digits : list_all (λ (d : ℕ). encoded_len (digit_char d ∷ []) == 1) (range_with_len 0 36) ≡ true
+spare_digits : list_all (λ (d : ℕ). encoded_len (digit_glyph false d ∷ []) == 1) (range_with_len 0 36) ≡ true
 unfolding byte_serialize percent_encode_byte
 spare_digits = refl
 
 digit_there : (d : ℕ) → d < 36 → Contains (range_with_len 0 36) d
 digit_there d low = let plain : 0 + d ≡ d = omega arith in (d, low, get_or-range_with_len 0 36 d d low ∙ plain)
 
-spare_digit : (n : ℕ) → encoded_len (digit_char (n % 36) ∷ []) ≡ 1
-spare_digit n = eqb-true (encoded_len (digit_char (n % 36) ∷ [])) 1 (all_each (λ (d : ℕ). encoded_len (digit_char d ∷ []) == 1) (range_with_len 0 36)
-    (n % 36) spare_digits (digit_there (n % 36) (omega arith)))
+spare_digit : (d : ℕ) → d < 36 → encoded_len (digit_glyph false d ∷ []) ≡ 1
+spare_digit d low = eqb-true (encoded_len (digit_glyph false d ∷ [])) 1 (all_each (λ (d : ℕ). encoded_len (digit_glyph false d ∷ []) == 1) (range_with_len 0 36)
+    d spare_digits (digit_there d low))
 
-spare_base : (count n : ℕ) → Spare (base_36 count n)
+spare_either : (t : Bool) (xs ys : Text) → Spare xs → Spare ys → Spare (cond t xs ys)
+spare_either true xs ys first second = first
+spare_either false xs ys first second = second
+
+spare_onto : (count n : ℕ) (more : Text) → Spare more → Spare (digits_onto count 36 false n more)
 unfolding Spare
-spare_base zero n = tt
-spare_base (suc count) n = spare_append (base_36 count (n / 36)) (digit_char (n % 36) ∷ []) (spare_base count (n / 36)) (spare_digit n, tt)
+spare_onto zero n more h = h
+spare_onto (suc count) n more h =
+    let digit : ℕ = digit_glyph false (n % 36) in
+    let low : n % 36 < 36 = omega arith in
+    let longer : Spare (digit ∷ more) = (spare_digit (n % 36) low, h) in
+    spare_either (n / 36 == 0) (digit ∷ more) (digits_onto count 36 false (n / 36) (digit ∷ more)) longer (spare_onto count (n / 36) (digit ∷ more) longer)
+
+spare_zeros : (count : ℕ) → Spare (replicate count 48)
+unfolding Spare
+spare_zeros zero = tt
+spare_zeros (suc count) = (spare_digit 0 (omega arith), spare_zeros count)
+
+spare_version : (n : ℕ) → Spare (padded 5 (base_36 n))
+unfolding Spare digits
+spare_version n = spare_append (replicate (5 - length (base_36 n)) 48) (base_36 n) (spare_zeros (5 - length (base_36 n))) (spare_onto 64 n [] tt)
 
 take_most : (k : ℕ) (xs : Text) → length (take k xs) ≤ k
 take_most zero xs = omega arith
@@ -191,9 +166,10 @@ take_most (suc k) [] = omega arith
 take_most (suc k) (x ∷ xs) = let later = take_most k xs in omega (arith, later)
 
 hash_len : (bytes : Text) → encoded_len (hash_5 bytes) ≤ 5
+unfolding version_of_hash
 hash_len bytes =
-    let digits : Text = base_36 (digit_count (fnv bytes)) (fnv bytes) in
-    let same = spare_len (take 5 digits) (spare_take 5 digits (spare_base (digit_count (fnv bytes)) (fnv bytes))) in
+    let digits : Text = padded 5 (base_36 (fnv bytes)) in
+    let same = spare_len (take 5 digits) (spare_take 5 digits (spare_version (fnv bytes))) in
     let most = take_most 5 digits in
     omega (arith, same, most)
 
@@ -216,10 +192,6 @@ before : {X : Type 0} (P : List X → Type 0) (batch : List X) (batches : List (
 before {X = X} P batch batches h all other c = ⊎_elim (λ e. subst (λ (xs : List X). (0 < length xs) × P xs) e h) (λ t. all other t)
     (contains_cases batch batches other c)
 
-filled_more : {X : Type 0} (xs : List X) (x : X) → 0 < length (xs ++ x ∷ [])
-filled_more [] x = omega arith
-filled_more (y ∷ xs) x = omega arith
-
 collect_each : {X : Type 0} (joins : List X → X → Bool) (P : List X → Type 0) → Collects joins P → (batches : List (List X)) (x : X)
     → Each P batches → Each P (collect joins batches x)
 collect_each joins P h [] x all = just P (x ∷ []) (omega arith) (h.one x)
@@ -227,7 +199,7 @@ collect_each {X = X} joins P h (batch ∷ []) x all = at batch (all batch (conta
   where
     step : (batch : List X) → (0 < length batch) × P batch → (b : Bool) → (b ≡ true → P (batch ++ x ∷ []))
         → Each P (if b then (batch ++ x ∷ []) ∷ [] else batch ∷ (x ∷ []) ∷ [])
-    step batch kept true more = just P (batch ++ x ∷ []) (filled_more batch x) (more refl)
+    step batch kept true more = just P (batch ++ x ∷ []) (pushed_filled batch x) (more refl)
     step batch kept false more = before P batch ((x ∷ []) ∷ []) kept (just P (x ∷ []) (omega arith) (h.one x))
 
     at : (batch : List X) → (0 < length batch) × P batch → Each P (collect joins (batch ∷ []) x)
@@ -247,7 +219,8 @@ abbrev Within : Query → ℕ → List Numbered → Type 0
 Within base limit [] = Unit {0}
 Within base limit (row ∷ rows) = (base_len base row.1 + 23 + collected_len (names_in (row ∷ rows)) ≤ limit) ⊎ (length (row ∷ rows) ≡ 1)
 
-same_rank : (base : Query) (a b : Group) → group_rank a ≡ group_rank b → base_in base a ≡ base_in base b
+-- groups of one rank are asked for by one base
+pub same_rank : (base : Query) (a b : Group) → group_rank a ≡ group_rank b → base_in base a ≡ base_in base b
 same_rank base Plain Plain e = refl
 same_rank base Plain User e = absurd (omega (arith, e))
 same_rank base Plain Private e = refl

@@ -1,28 +1,7 @@
 -- The part that is kept of a name says what its outcome is.
-use Rattle.std.proofs.Common.{
-  ◌≡◌,
-  ℕ,
-  List,
-  [],
-  ◌∷◌,
-  Bool,
-  true,
-  false,
-  ◌&&◌,
-  not,
-  map,
-  Option,
-  Some,
-  None,
-  refl,
-  ap,
-  sym,
-  subst,
-  ◌∙◌,
-  ⊎_elim,
-}
+use Rattle.std.proofs.Common.{◌≡◌, ℕ, List, [], ◌∷◌, Bool, true, false, ◌&&◌, not, map, Option, Some, None, refl, ap, sym, subst}
+use Rattle.std.proofs.Common.{◌∙◌}
 use Rattle.std.specs.Prelude.{bytes_eq, Contains, filter, find, option_and_then, option_map, is_none, is_some, if◌then◌else◌, slice_get, Result, Ok, Err}
-use Rattle.std.specs.List.{cons_option, filter_map}
 use Rattle.std.specs.Option.{option_map_or, option_or}
 use Rattle.std.proofs.lemmas.Bool.{both_ways}
 use Rattle.std.proofs.lemmas.Option.{slice_get-get_or}
@@ -31,8 +10,9 @@ use Rattle.rl_view_spec.specs.Closure.{Text, Registered, closure_rows, in_closur
 use Rattle.rl_view_spec.specs.Progress.{HasDistinctNames}
 use Rattle.rl_view_spec.specs.View.{Answer, Implementation, Failed, answer_in, is_implementation, is_touched, or_else}
 use Rattle.rl_view_spec.proofs.ChainsLemmas.{same}
+use Rattle.rl_view_spec.proofs.DepsLemmas.{filter_map_contains}
 use Rattle.rl_view_spec.proofs.PlacesLemmas.{apart, name_there, place_of, row_named}
-use Rattle.rl_view_spec.proofs.ToolsLemmas.{contains_cases, contains_head, contains_none, contains_tail, filter_contains, found_in, found_place}
+use Rattle.rl_view_spec.proofs.ToolsLemmas.{filter_contains, found_in, found_place}
 use Rattle.rl_wire.specs.Reading as wire
 use Rattle.rl_wire.specs.declared.part.Part.{Part}
 use Rattle.rl_book_spec.specs.Book.{nothing, bring, parts_for, request, loss, delivery, event_of, events_of}
@@ -94,19 +74,6 @@ delivery_gives r batch (part ∷ parts) name = step (bytes_eq (part_name part) n
 
 abbrev pub Given : Option (Part × Origin) → Text → Text → Type 0
 Given o version script = (given : Part × Origin) × (o ≡ Some given) × (answer_of given.0 ≡ Implementation version script)
-
-filter_map_contains : {X Y : Type 0} (f : X → Option Y) (xs : List X) (y : Y) → Contains (filter_map f xs) y → (x : X) × Contains xs x
-    × (f x ≡ Some y)
-filter_map_contains f [] y c = absurd (contains_none y c)
-filter_map_contains {X = X} {Y = Y} f (x ∷ xs) y c = step (f x) refl c (λ d. filter_map_contains f xs y d)
-  where
-    step : (o : Option Y) → f x ≡ o → Contains (cons_option o (filter_map f xs)) y
-        → (Contains (filter_map f xs) y → (z : X) × Contains xs z × (f z ≡ Some y)) → (z : X) × Contains (x ∷ xs) z × (f z ≡ Some y)
-    step None e d later = let m = later d in (m.0, contains_tail x xs m.0 m.1, m.2)
-    step (Some w) e d later = ⊎_elim
-        (λ s. (x, contains_head x xs, e ∙ ap Some s))
-        (λ t. let m = later t in (m.0, contains_tail x xs m.0 m.1, m.2))
-        (contains_cases w (filter_map f xs) y d)
 
 -- the row of a name is the one that stands there
 row_is : (r : Registered) → HasDistinctNames r → (row : Row) → Contains r.rows row → row_of r row.name ≡ Some row

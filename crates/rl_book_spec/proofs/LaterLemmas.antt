@@ -1,85 +1,25 @@
 -- What a call adds to what was there.
-use Rattle.std.proofs.Common.{
-  ◌≡◌,
-  ℕ,
-  ◌+◌,
-  ◌<◌,
-  List,
-  [],
-  ◌∷◌,
-  ◌++◌,
-  Bool,
-  true,
-  false,
-  ◌&&◌,
-  ◌||◌,
-  not,
-  length,
-  map,
-  Option,
-  Some,
-  None,
-  refl,
-  ap,
-  sym,
-  subst,
-  ◌∙◌,
-  ⊎_elim,
-  arith,
-  append_assoc,
-  append-nil,
-  suc,
-  zero,
-  inl,
-  inr,
-  ◌⊎◌,
-}
-use Rattle.std.specs.Prelude.{
-  Contains,
-  filter,
-  flat_map,
-  fold,
-  is_none,
-  is_some,
-  if◌then◌else◌,
-  nat_eq,
-  option_map,
-  slice_get,
-  slice_set,
-  Result,
-  Ok,
-  Err,
-}
+use Rattle.std.proofs.Common.{◌≡◌, ℕ, ◌+◌, List, [], ◌∷◌, ◌++◌, Bool, true, false, ◌&&◌, ◌||◌, not, length}
+use Rattle.std.proofs.Common.{map, Option, Some, None, refl, ap, sym, subst, ◌∙◌, ⊎_elim, arith, append_assoc, append-nil}
+use Rattle.std.specs.Prelude.{Contains, filter, flat_map, fold, is_none, is_some, if◌then◌else◌, nat_eq, option_map, slice_get, slice_set}
+use Rattle.std.specs.Prelude.{Result, Ok, Err}
 use Rattle.std.specs.List.{enumerate_from, list_any}
 use Rattle.std.specs.Option.{option_map_or}
-use Rattle.std.proofs.lemmas.Bool.{cases_Bool, eqb-false, eqb-true, or_left}
+use Rattle.std.proofs.lemmas.Bool.{cases_Bool, eqb-false, eqb-true, or_left, or_right}
 use Rattle.std.proofs.lemmas.List.Sorted.{Contains-permutation, IsPermutation-sym}
 use Rattle.std.proofs.lemmas.List.{length-map}
 use Rattle.std.proofs.lemmas.List.Elements.{Contains-append_left}
+use Rattle.std.proofs.lemmas.Option.{slice_get_within}
 use Rattle.rl_names.specs.declared.row.Row.{Row}
 use Rattle.rl_view_spec.specs.Closure.{Text, has_feature, in_closures, is_skipped}
 use Rattle.rl_view_spec.specs.Progress.{Cell, Progress, name_at, outcome_at}
-use Rattle.rl_view_spec.specs.View.{
-  View,
-  Event,
-  Answer,
-  answer_in,
-  cell_of,
-  first_of,
-  is_implementation,
-  is_touched,
-  kind_of,
-  log_of,
-  or_else,
-  progress_of,
-  throws_at,
-  throws_for,
-}
+use Rattle.rl_view_spec.specs.View.{View, Event, Answer, answer_in, cell_of, first_of, is_implementation, is_touched, kind_of, log_of, or_else}
+use Rattle.rl_view_spec.specs.View.{progress_of, throws_at, throws_for}
 use Rattle.rl_view_spec.specs.Keys.{never}
 use Rattle.rl_view_spec.proofs.LogLemmas.{first_kept, log_fits, logged_fit}
 use Rattle.rl_view_spec.proofs.PlacesLemmas.{name_there, skip_there}
 use Rattle.rl_view_spec.proofs.StepsLemmas.{map_alike}
-use Rattle.rl_view_spec.proofs.ToolsLemmas.{contains_cases, contains_flat_map, contains_head, contains_none, contains_tail, filter_contains, place_in}
+use Rattle.rl_view_spec.proofs.ToolsLemmas.{contains_flat_map, filter_contains, place_in}
 use Rattle.rl_wire.specs.Reading as wire
 use Rattle.rl_wire.specs.declared.part.Part.{Part}
 use Rattle.rl_book_spec.specs.Batches.{Numbered, batch_of, rows_of_batches}
@@ -88,44 +28,27 @@ use Rattle.rl_book_spec.specs.Given.{given_by, given_to, outcome_of}
 use Rattle.rl_book_spec.specs.Kept.{IsStage}
 use Rattle.rl_book_spec.specs.Laws.{BatchesAskForTouched, EventsAnswerRows, GivenStays, IsAsked, with_first}
 use Rattle.rl_book_spec.specs.Opening.{Opening, answer_at_touch, view_of}
-use Rattle.rl_book_spec.specs.Traffic.{
-  Traffic,
-  after_answer,
-  after_loss,
-  asked_of,
-  batches_for,
-  fresh,
-  is_left,
-  may_be_lost,
-  requested_by,
-  traffic_of,
-  with_batches,
-  with_delivery,
-  with_loss,
-}
+use Rattle.rl_book_spec.specs.Traffic.{Traffic, after_answer, after_loss, asked_of, batches_for, fresh, is_left, may_be_lost, requested_by}
+use Rattle.rl_book_spec.specs.Traffic.{traffic_of, with_batches, with_delivery, with_loss}
 use Rattle.rl_book_spec.specs.declared.Asked.{Asked}
 use Rattle.rl_book_spec.specs.declared.Batch.{Batch}
 use Rattle.rl_book_spec.specs.declared.Sent.{Sent}
 use Rattle.rl_book_spec.specs.declared.Call.{Call}
 use Rattle.rl_book_spec.specs.declared.Call.TheVariants.{Using, Load, Take, Deliver, Lose}
 use Rattle.rl_book_spec.specs.declared.Origin.{Origin}
-use Rattle.rl_book_spec.proofs.AskedForLemmas.{asked_sent, batch_rows}
+use Rattle.rl_book_spec.proofs.AskedForLemmas.{asked_sent, batch_rows, still_some}
 use Rattle.rl_book_spec.proofs.BatchesLemmas.{batches_hold_rows}
 use Rattle.rl_book_spec.proofs.LawfulLemmas.{event_requests}
-use Rattle.rl_book_spec.proofs.ListsLemmas.{get_set, get_set_other, place_of_number}
+use Rattle.rl_book_spec.proofs.ListsLemmas.{get_either, get_set, get_set_other, map_has, place_of_number}
 use Rattle.rl_book_spec.proofs.StageLemmas.{stage_front}
 
 -- ---- what was given
 
 outcome_stays : (o : Opening) (past : List Call) (call : Call) (name : Text) → is_some (outcome_of o past name) ≡ true
     → is_some (outcome_of o (call ∷ past) name) ≡ true
-outcome_stays o past call name = step (outcome_of o past name)
+outcome_stays o past call name = still_some (outcome_of o past name)
     (if is_touched (view_of never o) (events_of o (call ∷ past)) name && not (is_skipped o.registered name)
     then answer_in name (event_of o past call) else None)
-  where
-    step : (before later : Option Answer) → is_some before ≡ true → is_some (or_else before later) ≡ true
-    step None later h = cc
-    step (Some answer) later h = refl
 
 -- what was given has an outcome
 pub given_answered : (o : Opening) (past : List Call) (name : Text) (given : Part × Origin) → given_to o past name ≡ Some given
@@ -270,10 +193,6 @@ touched_stays o past call row asked = record {
       (is_touched (view_of never o) (events_of o past) (name_at o.registered row)) asked.touched;
   kept = asked.kept;
 }
-  where
-    or_right : (a b : Bool) → b ≡ true → (a || b) ≡ true
-    or_right true b h = refl
-    or_right false b h = h
 
 -- a list of batches, each of which holds rows of the property
 abbrev Hold : (ℕ → Type 0) → List Sent → Type 0
@@ -315,28 +234,10 @@ answer_holds P t ask (Ok parts) hold = outer (asked_of t ask) refl
     outer None e = hold
     outer (Some pair) e = set_holds P t.batches pair.0.batch pair.1 (record pair.1 { delivered = true }) (asked_sent t ask pair e) refl hold
 
-get_either : {X : Type 0} (xs ys : List X) (k : ℕ) (x : X) → slice_get (xs ++ ys) k ≡ Some x → (slice_get xs k ≡ Some x) ⊎ Contains ys x
-get_either [] ys k x e = inr (place_in ys k x e)
-get_either (z ∷ xs) ys zero x e = inl e
-get_either (z ∷ xs) ys (suc k) x e = get_either xs ys k x e
-
-map_has : {X Y : Type 0} (f : X → Y) (xs : List X) (y : Y) → Contains (map f xs) y → (x : X) × Contains xs x × (f x ≡ y)
-map_has f [] y c = absurd (contains_none y c)
-map_has f (x ∷ xs) y c = ⊎_elim
-    (λ e. (x, contains_head x xs, e))
-    (λ d. let m = map_has f xs y d in (m.0, contains_tail x xs m.0 m.1, m.2))
-    (contains_cases (f x) (map f xs) y c)
-
 flat_has : {X : Type 0} (lists : List (List X)) (list : List X) (x : X) → Contains lists list → Contains list x
     → Contains (flat_map (λ (xs : List X). xs) lists) x
 flat_has lists list x c d = contains_flat_map (λ xs. xs) lists list x c d
 
-within_there : {X : Type 0} (xs : List X) (k : ℕ) (x : X) → slice_get xs k ≡ Some x → k < length xs
-within_there [] k x e = cc
-within_there (y ∷ xs) zero x e = omega arith
-within_there (y ∷ xs) (suc k) x e = let low : k < length xs = within_there xs k x e in omega (arith, low)
-
--- a batch of a request asks for rows that it touches and that are left
 request_asks : (o : Opening) (past : List Call) (call : Call) (batch : Batch) (row : ℕ)
     → Contains (batches_for o past (requested_by o.registered call)) batch → Contains batch.rows row → IsAsked o (call ∷ past) row
 request_asks o past call batch row c d =
@@ -361,7 +262,7 @@ request_asks o past call batch row c d =
     (not (list_any (λ (call : Call). in_closures o.registered (requested_by o.registered call) numbered.0.1.name) past))
     (has_feature o.registered numbered.0.1.skip) (is_none (answer_at_touch o numbered.0.1)) passes.1 in
     record {
-      within = within_there o.registered.rows row numbered.0.1 here;
+      within = slice_get_within o.registered.rows row numbered.0.1 here;
       touched = or_left (in_closures o.registered (event_of o past call).requested (name_at o.registered row))
           (is_touched (view_of never o) (events_of o past) (name_at o.registered row))
           (ap (λ (names : List Text). in_closures o.registered names (name_at o.registered row)) (event_requests o past call)
@@ -381,7 +282,8 @@ new_holds : (o : Opening) (past : List Call) (call : Call) (t : Traffic)
     → Hold (IsAsked o (call ∷ past)) (with_batches (batches_for o past (requested_by o.registered call)) t).batches
 new_holds o past call t hold batch sent row e c = ⊎_elim
     (λ old. hold batch sent row old c)
-    (λ new. let made = map_has fresh (batches_for o past (requested_by o.registered call)) sent new in
+    (λ new. let made = map_has fresh (batches_for o past (requested_by o.registered call)) sent
+    (place_in (map fresh (batches_for o past (requested_by o.registered call))) new.0 sent new.2) in
     request_asks o past call made.0 row made.1 (subst (λ (s : Sent). Contains s.batch.rows row) (sym made.2) c))
     (get_either t.batches (map fresh (batches_for o past (requested_by o.registered call))) batch sent e)
 

@@ -1,55 +1,22 @@
 -- The events of calls are lawful.
-use Rattle.std.proofs.Common.{
-  ◌≡◌,
-  ℕ,
-  List,
-  [],
-  ◌∷◌,
-  Bool,
-  true,
-  false,
-  ◌||◌,
-  ◌&&◌,
-  Option,
-  Some,
-  None,
-  refl,
-  ap,
-  ap₂,
-  subst,
-  sym,
-  ◌∙◌,
-  ⊎_elim,
-}
-use Rattle.std.specs.Prelude.{filter, is_none, if◌then◌else◌, nat_lt, Result, Ok, Err}
+use Rattle.std.proofs.Common.{◌≡◌, ℕ, List, [], ◌∷◌, Bool, true, false, ◌||◌, ◌&&◌, Option, Some, None, refl, ap, ap₂}
+use Rattle.std.proofs.Common.{sym, ◌∙◌}
+use Rattle.std.specs.Prelude.{filter, if◌then◌else◌, nat_lt, Result, Ok, Err}
 use Rattle.std.specs.List.{list_all}
 use Rattle.std.specs.Option.{option_map_or}
-use Rattle.rl_view_spec.specs.Closure.{Text, Registered, Refusal, Resolves, in_closures, refusal_of, resolves}
-use Rattle.rl_view_spec.proofs.ResolveLemmas.{accepted_resolves, resolves_accepted}
-use Rattle.rl_view_spec.proofs.ToolsLemmas.{contains_cases, contains_none, each_all, filter_contains}
+use Rattle.rl_view_spec.specs.Closure.{Text, Registered, in_closures, resolves}
+use Rattle.rl_view_spec.proofs.ResolveLemmas.{accepted_each_resolves}
+use Rattle.rl_view_spec.proofs.ToolsLemmas.{each_all, filter_contains}
 use Rattle.rl_wire.specs.Reading as wire
 use Rattle.rl_wire.specs.declared.part.Part.{Part}
 use Rattle.rl_book_spec.specs.Book.{nothing, bring, given_up, parts_for, loss, delivery, event_of}
 use Rattle.rl_book_spec.specs.Laws.{BooksAreLawful, RequestsTouch}
 use Rattle.rl_book_spec.specs.Opening.{Opening}
-use Rattle.rl_view_spec.specs.Requests.{accepted}
 use Rattle.rl_book_spec.specs.Traffic.{Traffic, asked_of, may_be_lost, requested_by, traffic_of}
 use Rattle.rl_book_spec.specs.declared.Asked.{Asked}
 use Rattle.rl_book_spec.specs.declared.Sent.{Sent}
 use Rattle.rl_book_spec.specs.declared.Call.{Call}
 use Rattle.rl_book_spec.specs.declared.Call.TheVariants.{Using, Load, Take, Deliver, Lose}
-
-each_resolves : (r : Registered) (names : List Text) → refusal_of r names ≡ None → list_all (resolves r) names ≡ true
-each_resolves r names e = each_all (resolves r) names (λ name c.
-    ap is_none (resolves_accepted r (name ∷ []) (λ other d. ⊎_elim (λ s. subst (λ (x : Text). Resolves r x) s
-    (accepted_resolves r names (ap is_none e) name c)) (λ t. absurd (contains_none other t)) (contains_cases name [] other d))))
-
-accepted_lawful : (r : Registered) (names : List Text) → list_all (resolves r) (accepted r names) ≡ true
-accepted_lawful r names = step (refusal_of r names) refl
-  where
-    step : (o : Option Refusal) → refusal_of r names ≡ o → list_all (resolves r) (if is_none o then names else []) ≡ true
-    step None e = each_resolves r names e
-    step (Some refused) e = refl
 
 -- what a loss or a delivery brings asks for nothing
 pub loss_requests : (o : Opening) (t : Traffic) (ask : ℕ) → (loss o t ask).requested ≡ []
@@ -82,7 +49,7 @@ event_requests o past (Deliver ask bytes mark) = delivery_requests o (traffic_of
 event_requests o past (Lose ask mark) = loss_requests o (traffic_of o past) ask
 
 call_lawful : (r : Registered) (call : Call) → list_all (resolves r) (requested_by r call) ≡ true
-call_lawful r (Using names) = accepted_lawful r names
+call_lawful r (Using names) = accepted_each_resolves r names
 call_lawful r (Load names) = each_all (resolves r) (filter (resolves r) names) (λ name c. (filter_contains (resolves r) names name c).1)
 call_lawful r Take = refl
 call_lawful r (Deliver ask bytes mark) = refl

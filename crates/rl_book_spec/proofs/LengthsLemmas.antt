@@ -1,33 +1,9 @@
 -- How long packed names are once they are encoded: what they add, one after another.
-use Rattle.std.proofs.Common.{
-  ◌≡◌,
-  ℕ,
-  ◌+◌,
-  List,
-  [],
-  ◌∷◌,
-  ◌++◌,
-  Bool,
-  true,
-  false,
-  ◌||◌,
-  cond,
-  not,
-  length,
-  map,
-  refl,
-  ap,
-  ap₂,
-  sym,
-  subst,
-  ◌∙◌,
-  arith,
-  append-nil,
-  append_assoc,
-  length-append,
-}
+use Rattle.std.proofs.Common.{◌≡◌, ℕ, ◌+◌, List, [], ◌∷◌, ◌++◌, Bool, true, false, ◌||◌, cond, not, length, map, refl, ap}
+use Rattle.std.proofs.Common.{ap₂, sym, subst, ◌∙◌, arith, append-nil, append_assoc, length-append}
 use Rattle.std.specs.Prelude.{bytes_eq, filter, flat_map, if◌then◌else◌}
 use Rattle.std.specs.List.{list_any, join_with_byte, AllByRecursion}
+use Rattle.std.proofs.lemmas.Bool.{or_right}
 use Rattle.std.proofs.lemmas.Grind.{flat_map-append}
 use Rattle.std.proofs.lemmas.List.{map-append}
 use Rattle.form_urlencoded.specs.Form.{byte_serialize, serialize_byte}
@@ -213,13 +189,9 @@ own_fronts done (name ∷ names) = (
       (append_assoc done (name ∷ []) names) (own_fronts (done ++ name ∷ []) names),
 )
   where
-    or_yes : (a b : Bool) → b ≡ true → (a || b) ≡ true
-    or_yes true b e = refl
-    or_yes false b e = e
-
     here : (before : List Text) → has (front_of name) (map front_of (before ++ name ∷ names)) ≡ true
     here [] = ap (λ (b : Bool). b || has (front_of name) (map front_of names)) (text_itself (front_of name))
-    here (other ∷ before) = or_yes (bytes_eq (front_of other) (front_of name)) (has (front_of name) (map front_of (before ++ name ∷ names))) (here before)
+    here (other ∷ before) = or_right (bytes_eq (front_of other) (front_of name)) (has (front_of name) (map front_of (before ++ name ∷ names))) (here before)
 
 -- ---- what names add, altogether
 

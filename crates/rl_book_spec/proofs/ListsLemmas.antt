@@ -1,28 +1,8 @@
 -- Places in lists, and numbered lists.
-use Rattle.std.proofs.Common.{
-  ◌≡◌,
-  ℕ,
-  zero,
-  suc,
-  ◌+◌,
-  List,
-  [],
-  ◌∷◌,
-  ◌++◌,
-  length,
-  Option,
-  Some,
-  None,
-  refl,
-  ap,
-  sym,
-  subst,
-  ◌∙◌,
-  ⊎_elim,
-  arith,
-}
+use Rattle.std.proofs.Common.{◌≡◌, ℕ, zero, suc, ◌+◌, List, [], ◌∷◌, ◌++◌, length, Some, refl, ap, sym, subst}
+use Rattle.std.proofs.Common.{◌∙◌, ◌⊎◌, ⊎_elim, arith, inl, inr, map}
 use Rattle.std.specs.Prelude.{Contains, slice_get, slice_set}
-use Rattle.std.specs.List.{enumerate_from, filter_map, cons_option}
+use Rattle.std.specs.List.{enumerate_from}
 use Rattle.rl_view_spec.proofs.ToolsLemmas.{contains_head, contains_tail, contains_cases, contains_none}
 
 pub get_front : {X : Type 0} (xs ys : List X) (k : ℕ) (x : X) → slice_get xs k ≡ Some x → slice_get (xs ++ ys) k ≡ Some x
@@ -66,18 +46,17 @@ place_of_number {X = X} n (y ∷ xs) p c = ⊎_elim
     (λ t. let m = place_of_number (n + 1) xs p t in (suc m.0, m.1 ∙ (omega arith), m.2))
     (contains_cases (n, y) (enumerate_from (n + 1) xs) p c)
 
-pub contains_filter_map : {X Y : Type 0} (f : X → Option Y) (xs : List X) (x : X) (y : Y) → Contains xs x → f x ≡ Some y
-    → Contains (filter_map f xs) y
-contains_filter_map f [] x y c e = absurd (contains_none x c)
-contains_filter_map {X = X} {Y = Y} f (z ∷ xs) x y c e = ⊎_elim
-    (λ s. here (f z) (ap f s ∙ e))
-    (λ t. there (f z) (contains_filter_map f xs x y t e))
-    (contains_cases z xs x c)
-  where
-    here : (o : Option Y) → o ≡ Some y → Contains (cons_option o (filter_map f xs)) y
-    here None e = cc
-    here (Some w) e = let same : w ≡ y = cc in subst (λ (v : Y). Contains (w ∷ filter_map f xs) v) same (contains_head w (filter_map f xs))
+-- what stands in two lists, one behind the other
+pub get_either : {X : Type 0} (xs ys : List X) (k : ℕ) (x : X) → slice_get (xs ++ ys) k ≡ Some x → (slice_get xs k ≡ Some x)
+    ⊎ ((j : ℕ) × (k ≡ length xs + j) × (slice_get ys j ≡ Some x))
+get_either [] ys k x e = inr (k, omega arith, e)
+get_either (z ∷ xs) ys zero x e = inl e
+get_either (z ∷ xs) ys (suc k) x e = ⊎_elim (λ h. inl h) (λ m. inr (m.0, omega (arith, m.1), m.2)) (get_either xs ys k x e)
 
-    there : (o : Option Y) → Contains (filter_map f xs) y → Contains (cons_option o (filter_map f xs)) y
-    there None c = c
-    there (Some w) c = contains_tail w (filter_map f xs) y c
+-- what a list of values has is the value of something
+pub map_has : {X Y : Type 0} (f : X → Y) (xs : List X) (y : Y) → Contains (map f xs) y → (x : X) × Contains xs x × (f x ≡ y)
+map_has f [] y c = absurd (contains_none y c)
+map_has f (x ∷ xs) y c = ⊎_elim
+    (λ e. (x, contains_head x xs, e))
+    (λ d. let m = map_has f xs y d in (m.0, contains_tail x xs m.0 m.1, m.2))
+    (contains_cases (f x) (map f xs) y c)

@@ -1,47 +1,12 @@
 -- A batch that is not settled waits once or has one open ask.
-use Rattle.std.proofs.Common.{
-  ◌≡◌,
-  ℕ,
-  zero,
-  suc,
-  ◌+◌,
-  ◌<◌,
-  ◌≤◌,
-  ◌⊎◌,
-  List,
-  [],
-  ◌∷◌,
-  ◌++◌,
-  Bool,
-  true,
-  false,
-  cond,
-  ◌&&◌,
-  ◌||◌,
-  not,
-  length,
-  map,
-  Option,
-  Some,
-  None,
-  refl,
-  ap,
-  ap₂,
-  sym,
-  subst,
-  ◌∙◌,
-  inl,
-  inr,
-  ⊎_elim,
-  arith,
-  length-append,
-  length-set,
-}
+use Rattle.std.proofs.Common.{◌≡◌, ℕ, zero, suc, ◌+◌, ◌<◌, ◌≤◌, ◌⊎◌, List, [], ◌∷◌, ◌++◌, Bool, true, false}
+use Rattle.std.proofs.Common.{cond, ◌&&◌, ◌||◌, not, length, map, Option, Some, None, refl, ap, ap₂, sym, subst, ◌∙◌, inl, inr}
+use Rattle.std.proofs.Common.{arith, length-append, length-set}
 use Rattle.std.proofs.lemmas.List.{length-map}
 use Rattle.std.specs.Prelude.{◌==◌, count_by, drop, if◌then◌else◌, nat_le, slice_get, slice_set, take, Result, Ok, Err}
 use Rattle.std.specs.List.{range_with_len}
 use Rattle.std.specs.Option.{option_map_or}
-use Rattle.std.proofs.lemmas.Bool.{both_ways, eq-eqb, eqb-false, eqb-true, ne_eqb}
+use Rattle.std.proofs.lemmas.Bool.{both_ways, eq-eqb, eqb-false, eqb-true, ne_eqb, or_from, or_parts, or_right}
 use Rattle.std.proofs.lemmas.Bool.Decides.{nat_tests}
 use Rattle.std.proofs.lemmas.List.Sums.{sum_by-cons}
 use Rattle.std.proofs.lemmas.Option.{slice_get_within}
@@ -49,28 +14,14 @@ use Rattle.rl_wire.specs.Reading as wire
 use Rattle.rl_wire.specs.declared.part.Part.{Part}
 use Rattle.rl_book_spec.specs.Laws.{BatchesAreSomewhere, IsSomewhere, IsTraffic, lost_asks, open_asks, times_waiting}
 use Rattle.rl_view_spec.specs.Requests.{accepted, accepted_each}
-use Rattle.rl_book_spec.specs.Traffic.{
-  Traffic,
-  after_answer,
-  after_loss,
-  asked_of,
-  batches_for,
-  fresh,
-  is_settled,
-  may_be_lost,
-  traffic_of,
-  with_ask,
-  with_batches,
-  with_delivery,
-  with_loss,
-  without,
-}
+use Rattle.rl_book_spec.specs.Traffic.{Traffic, after_answer, after_loss, asked_of, batches_for, fresh, is_settled, may_be_lost, traffic_of, with_ask}
+use Rattle.rl_book_spec.specs.Traffic.{with_batches, with_delivery, with_loss, without}
 use Rattle.rl_book_spec.specs.declared.Asked.{Asked}
 use Rattle.rl_book_spec.specs.declared.Sent.{Sent}
 use Rattle.rl_book_spec.specs.declared.Batch.{Batch}
 use Rattle.rl_book_spec.specs.declared.Call.TheVariants.{Using, Load, Take, Deliver, Lose}
 use Rattle.rl_book_spec.proofs.AskedForLemmas.{asked_sent}
-use Rattle.rl_book_spec.proofs.ListsLemmas.{get_set, get_set_other}
+use Rattle.rl_book_spec.proofs.ListsLemmas.{get_either, get_set, get_set_other}
 
 -- ---- counts
 
@@ -169,12 +120,6 @@ range_inside n m j low = count_range n m (n + j) ∙ yes n m j low
     yes n m j low = grind (arith, nat_tests)
 
 -- ---- places
-
-get_either : {X : Type 0} (xs ys : List X) (k : ℕ) (x : X) → slice_get (xs ++ ys) k ≡ Some x → (slice_get xs k ≡ Some x)
-    ⊎ ((j : ℕ) × (k ≡ length xs + j) × (slice_get ys j ≡ Some x))
-get_either [] ys k x e = inr (k, omega arith, e)
-get_either (z ∷ xs) ys zero x e = inl e
-get_either (z ∷ xs) ys (suc k) x e = ⊎_elim (λ h. inl h) (λ m. inr (m.0, omega (arith, m.1), m.2)) (get_either xs ys k x e)
 
 get_fresh : (new : List Batch) (j : ℕ) (sent : Sent) → slice_get (map fresh new) j ≡ Some sent → (j < length new) × (sent.losses ≡ 0)
     × (sent.delivered ≡ false)
@@ -318,6 +263,10 @@ few_if_open sent h = few sent.losses (not_yes sent.delivered (nat_le 3 sent.loss
     few : (n : ℕ) → nat_le 3 n ≡ false → n ≤ 2
     few n e = grind (arith, nat_tests)
 
+no_mark : (third : Bool) → (if third then 0 else mark false) ≡ 0
+no_mark true = refl
+no_mark false = refl
+
 same_place : (b : ℕ) → (b == b) ≡ true
 same_place b = eq-eqb b b refl
 
@@ -389,16 +338,12 @@ loss_somewhere t ask asked sent there batch_there kept waits h = record { each =
               losses = omega (arith, l, lm, losses, one);
               few = omega (arith, few);
               outstanding = λ open_. absurd (both_ways (sent.delivered || nat_le 3 (sent.losses + 1)) open_
-                  (or_yes sent.delivered (nat_le 3 (sent.losses + 1)) (third sent.losses e)));
+                  (or_right sent.delivered (nat_le 3 (sent.losses + 1)) (third sent.losses e)));
               settled = λ done. omega (arith, w, added, before, o, om, one);
             }
           where
             third : (n : ℕ) → nat_le 2 n ≡ true → nat_le 3 (n + 1) ≡ true
             third n e = grind (arith, nat_tests)
-
-            or_yes : (a b : Bool) → b ≡ true → (a || b) ≡ true
-            or_yes true b e = refl
-            or_yes false b e = e
         by false e was one before losses few o om l lm w =
             let added : count_by (λ k. k == asked.batch) (if nat_le 2 sent.losses then [] else asked.batch ∷ []) ≡ 1 =
             ap (λ (third : Bool). count_by (λ k. k == asked.batch) (if third then [] else asked.batch ∷ [])) e
@@ -408,18 +353,11 @@ loss_somewhere t ask asked sent there batch_there kept waits h = record { each =
               few = omega (arith, few);
               outstanding = λ open_. omega (arith, w, added, before, o, om, one);
               settled = λ done. absurd (both_ways (sent.delivered || nat_le 3 (sent.losses + 1))
-                  (neither sent.delivered (nat_le 3 (sent.losses + 1)) (delivered sent.delivered (nat_le 3 sent.losses) waits) (second sent.losses e)) done);
+                  (or_from sent.delivered (nat_le 3 (sent.losses + 1)) (or_parts sent.delivered (nat_le 3 sent.losses) waits).0 (second sent.losses e)) done);
             }
           where
             second : (n : ℕ) → nat_le 2 n ≡ false → nat_le 3 (n + 1) ≡ false
             second n e = grind (arith, nat_tests)
-
-            delivered : (a b : Bool) → (a || b) ≡ false → a ≡ false
-            delivered true b e = e
-            delivered false b e = refl
-
-            neither : (a b : Bool) → a ≡ false → b ≡ false → (a || b) ≡ false
-            neither a b e f = ap (λ (c : Bool). c || b) e ∙ f
 
     other : (b : ℕ) (s : Sent) → (asked.batch == b) ≡ false → IsSomewhere t b s → IsSomewhere (with_loss ask asked sent t) b s
     other b s apart was =
@@ -430,7 +368,7 @@ loss_somewhere t ask asked sent there batch_there kept waits h = record { each =
         let lm = lost_mark b in
         let w = times b in
         let added : count_by (λ k. k == b) (if nat_le 2 sent.losses then [] else asked.batch ∷ []) ≡ 0 = more b (nat_le 2 sent.losses) false apart
-        ∙ either (nat_le 2 sent.losses) in
+        ∙ no_mark (nat_le 2 sent.losses) in
         let losses = was.losses in
         record {
           losses = omega (arith, l, lm, none_here, losses);
@@ -438,10 +376,6 @@ loss_somewhere t ask asked sent there batch_there kept waits h = record { each =
           outstanding = λ open_. (let before = was.outstanding open_ in omega (arith, w, added, o, om, none_here, before));
           settled = λ done. (let before = was.settled done in omega (arith, w, added, before));
         }
-      where
-        either : (third : Bool) → (if third then 0 else mark false) ≡ 0
-        either true = refl
-        either false = refl
 
     each : (b : ℕ) (s : Sent) → slice_get (slice_set t.batches asked.batch (record sent { losses = sent.losses + 1 })) b ≡ Some s
         → IsSomewhere (with_loss ask asked sent t) b s
@@ -473,12 +407,8 @@ loss_somewhere t ask asked sent there batch_there kept waits h = record { each =
         let lm = lost_mark b in
         let w = times b in
         let added : count_by (λ k. k == b) (if nat_le 2 sent.losses then [] else asked.batch ∷ []) ≡ 0 = more b (nat_le 2 sent.losses) false apart
-        ∙ either (nat_le 2 sent.losses) in
+        ∙ no_mark (nat_le 2 sent.losses) in
         omega (arith, nothing, none_here, o, om, l, lm, w, added)
-      where
-        either : (third : Bool) → (if third then 0 else mark false) ≡ 0
-        either true = refl
-        either false = refl
 
 -- ---- a delivery
 

@@ -1,62 +1,14 @@
 -- How far a book has executed.
-use Rattle.std.proofs.Common.{
-  ◌≡◌,
-  ℕ,
-  zero,
-  suc,
-  ◌<◌,
-  List,
-  [],
-  ◌∷◌,
-  ◌++◌,
-  Bool,
-  true,
-  false,
-  ◌&&◌,
-  ◌||◌,
-  not,
-  length,
-  map,
-  Option,
-  Some,
-  None,
-  refl,
-  ap,
-  ap₂,
-  sym,
-  subst,
-  ◌∙◌,
-  inl,
-  inr,
-  append-nil,
-}
+use Rattle.std.proofs.Common.{◌≡◌, ℕ, zero, suc, ◌<◌, List, [], ◌∷◌, ◌++◌, Bool, true, false, ◌&&◌, ◌||◌, not, length}
+use Rattle.std.proofs.Common.{map, Option, Some, None, refl, ap, ap₂, sym, subst, ◌∙◌, inl, inr, append-nil}
 use Rattle.std.specs.Prelude.{◌==◌, bytes_eq, Contains, find, option_map, option_to_list, if◌then◌else◌, nat_lt}
 use Rattle.std.specs.List.{list_all, list_any}
 use Rattle.std.specs.Option.{option_map_or}
 use Rattle.std.proofs.lemmas.Bool.{and_parts, not-true}
 use Rattle.rl_view_spec.specs.Closure.{Text, Registered, in_closures, is_skipped}
 use Rattle.rl_view_spec.specs.Progress.{name_at, row_numbers, is_skipped_at, is_touched_at, outcome_at, is_impl, is_runnable, all_needed, next_row}
-use Rattle.rl_view_spec.specs.View.{
-  View,
-  Event,
-  Answer,
-  Implementation,
-  Missing,
-  Failed,
-  GivenUp,
-  Throws,
-  answer_in,
-  or_else,
-  is_touched,
-  first_of,
-  is_implementation,
-  throws_for,
-  throws_at,
-  progress_of,
-  run_once,
-  run_times,
-  log_of,
-}
+use Rattle.rl_view_spec.specs.View.{View, Event, Answer, Implementation, Missing, Failed, GivenUp, Throws, answer_in, or_else, is_touched, first_of}
+use Rattle.rl_view_spec.specs.View.{is_implementation, throws_for, throws_at, progress_of, run_once, run_times, log_of}
 use Rattle.rl_view_spec.proofs.AfterLemmas.{run_out, stays}
 use Rattle.rl_view_spec.proofs.LogLemmas.{first_kept, impl_row, log_fits, logged_fit, runs, touched_row}
 use Rattle.rl_view_spec.proofs.ObservedLemmas.{Agree, first_same, log_same, times_same}
@@ -103,37 +55,34 @@ if_none : (b : Bool) (o : Option Answer) → is_implementation o ≡ false → i
 if_none true o h = h
 if_none false o h = refl
 
-quiet_kind : (v : View) (event : Event) (past : List Event) (name : Text) → is_quiet event ≡ true → is_implementation (first_of v (event ∷ past) name)
-    ≡ is_implementation (first_of v past name)
-quiet_kind v event past name h = step (first_of v past name) (if_none (is_touched v (event ∷ past) name && not (is_skipped v.registered name))
-    (answer_in name event) (quiet_answer event name h))
-  where
-    step : (o : Option Answer) → is_implementation (if is_touched v (event ∷ past) name && not (is_skipped v.registered name) then answer_in name event
-        else None) ≡ false
-        → is_implementation (or_else o (if is_touched v (event ∷ past) name && not (is_skipped v.registered name) then answer_in name event else None))
-        ≡ is_implementation o
-    step None e = e
-    step (Some answer) e = refl
+-- what a quiet event leaves as it was
+module _ (v : View) (event : Event) (past : List Event) (quiet : is_quiet event ≡ true) where
+  -- what it brings for a name, which is no implementation
+  abbrev brought : Text → Option Answer
+  brought name = if is_touched v (event ∷ past) name && not (is_skipped v.registered name) then answer_in name event else None
 
-quiet_throws : (v : View) (event : Event) (past : List Event) (name : Text) → is_quiet event ≡ true → throws_at v (event ∷ past) name
-    ≡ throws_at v past name
-quiet_throws v event past name h = step (first_of v past name) (no_throw v.throws name
-    (if is_touched v (event ∷ past) name && not (is_skipped v.registered name) then answer_in name event else None)
-    (if_none (is_touched v (event ∷ past) name && not (is_skipped v.registered name)) (answer_in name event) (quiet_answer event name h)))
-  where
-    step : (o : Option Answer) → throws_for v.throws name (if is_touched v (event ∷ past) name && not (is_skipped v.registered name)
-        then answer_in name event else None) ≡ false
-        → throws_for v.throws name (or_else o (if is_touched v (event ∷ past) name && not (is_skipped v.registered name) then answer_in name event
-        else None)) ≡ throws_for v.throws name o
-    step None e = e
-    step (Some answer) e = refl
+  none_brought : (name : Text) → is_implementation (brought name) ≡ false
+  none_brought name = if_none (is_touched v (event ∷ past) name && not (is_skipped v.registered name)) (answer_in name event) (quiet_answer event name quiet)
 
-quiet_touched : (v : View) (event : Event) (past : List Event) (name : Text) → is_quiet event ≡ true → is_touched v (event ∷ past) name
-    ≡ is_touched v past name
-quiet_touched v event past name h =
-    ap (λ (names : List Text). in_closures v.registered names name || is_touched v past name)
-    (quiet_nothing event.requested (and_parts (is_nothing event.requested)
-    (list_all (λ (coming : Text × Answer). not (is_implementation (Some coming.1))) event.came) h).0)
+  quiet_kind : (name : Text) → is_implementation (first_of v (event ∷ past) name) ≡ is_implementation (first_of v past name)
+  quiet_kind name = step (first_of v past name)
+    where
+      step : (o : Option Answer) → is_implementation (or_else o (brought name)) ≡ is_implementation o
+      step None = none_brought name
+      step (Some answer) = refl
+
+  quiet_throws : (name : Text) → throws_at v (event ∷ past) name ≡ throws_at v past name
+  quiet_throws name = step (first_of v past name)
+    where
+      step : (o : Option Answer) → throws_for v.throws name (or_else o (brought name)) ≡ throws_for v.throws name o
+      step None = no_throw v.throws name (brought name) (none_brought name)
+      step (Some answer) = refl
+
+  quiet_touched : (name : Text) → is_touched v (event ∷ past) name ≡ is_touched v past name
+  quiet_touched name =
+      ap (λ (names : List Text). in_closures v.registered names name || is_touched v past name)
+      (quiet_nothing event.requested (and_parts (is_nothing event.requested)
+      (list_all (λ (coming : Text × Answer). not (is_implementation (Some coming.1))) event.came) quiet).0)
 
 -- what makes a row runnable
 abbrev may_run : Registered → List (ℕ × Bool) → ℕ → Bool → Bool → Bool
@@ -154,13 +103,13 @@ quiet_next v event past log h = find_alike (is_runnable (progress_of v (event �
     ran : runs v (event ∷ past) log ≡ runs v past log
     ran = map_alike (λ (row : ℕ). (row, throws_at v (event ∷ past) (name_at v.registered row)))
         (λ (row : ℕ). (row, throws_at v past (name_at v.registered row))) log
-        (λ row c. ap (λ (b : Bool). (row, b)) (quiet_throws v event past (name_at v.registered row) h))
+        (λ row c. ap (λ (b : Bool). (row, b)) (quiet_throws v event past h (name_at v.registered row)))
 
     same : (row : ℕ) → row < length v.registered.rows → is_runnable (progress_of v (event ∷ past) log) row ≡ is_runnable (progress_of v past log) row
     same row low =
         ap₂ (λ (touched answered : Bool). may_run v.registered (runs v (event ∷ past) log) row touched answered)
-        (touched_row v (event ∷ past) log row low ∙ quiet_touched v event past (name_at v.registered row) h ∙ sym (touched_row v past log row low))
-        (impl_row v (event ∷ past) log row low ∙ quiet_kind v event past (name_at v.registered row) h ∙ sym (impl_row v past log row low))
+        (touched_row v (event ∷ past) log row low ∙ quiet_touched v event past h (name_at v.registered row) ∙ sym (touched_row v past log row low))
+        (impl_row v (event ∷ past) log row low ∙ quiet_kind v event past h (name_at v.registered row) ∙ sym (impl_row v past log row low))
         ∙ ap (λ (rs : List (ℕ × Bool)). may_run v.registered rs row (is_touched_at (progress_of v past log) row)
         (is_impl (outcome_at (progress_of v past log) row))) ran
 
@@ -231,8 +180,8 @@ stage_others v other (event ∷ past) log (inl (times, is)) agree =
 stage_others v other (event ∷ past) log (inr (quiet, s)) agree =
     inr (
       quiet,
-      stage_others v other past log s (λ row c. sym (quiet_throws v event past (name_at v.registered row) quiet) ∙ agree row c
-          ∙ quiet_throws (observed_by v other) event past (name_at v.registered row) quiet),
+      stage_others v other past log s (λ row c. sym (quiet_throws v event past quiet (name_at v.registered row)) ∙ agree row c
+          ∙ quiet_throws (observed_by v other) event past quiet (name_at v.registered row)),
     )
 
 -- ---- losses

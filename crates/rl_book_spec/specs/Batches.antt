@@ -1,25 +1,6 @@
 -- Rows cut into batches, each of which one query asks for.
-use Rattle.std.specs.Prelude.{
-  ℕ,
-  ◌+◌,
-  ◌&&◌,
-  ◌==◌,
-  ◌∷◌,
-  [],
-  ◌++◌,
-  List,
-  Bool,
-  if◌then◌else◌,
-  bytes_eq,
-  codes,
-  find,
-  fold,
-  length,
-  map,
-  nat_le,
-  option_and_then,
-  Option,
-}
+use Rattle.std.specs.Prelude.{ℕ, ◌+◌, ◌&&◌, ◌==◌, ◌∷◌, [], ◌++◌, List, Bool, if◌then◌else◌, bytes_eq, codes, find, fold}
+use Rattle.std.specs.Prelude.{length, map, nat_le, option_and_then, Option}
 use Rattle.std.specs.List.{filter_map, list_all}
 use Rattle.std.specs.Ordering.{nat_cmp, is_lt, ordering_then}
 use Rattle.std.specs.declared.cmp.Ordering.{Ordering}

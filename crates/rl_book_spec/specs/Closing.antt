@@ -1,28 +1,6 @@
 -- What the store becomes when a view is closed.
-use Rattle.std.specs.Prelude.{
-  ℕ,
-  ◌^◌,
-  ◌+◌,
-  ◌/◌,
-  ◌&&◌,
-  ◌++◌,
-  List,
-  Bool,
-  true,
-  false,
-  not,
-  if◌then◌else◌,
-  bytes_eq,
-  filter,
-  length,
-  nat_le,
-  nat_lt,
-  option_and_then,
-  option_map,
-  Option,
-  Some,
-  None,
-}
+use Rattle.std.specs.Prelude.{ℕ, ◌^◌, ◌+◌, ◌/◌, ◌&&◌, ◌++◌, List, Bool, true, false, not, if◌then◌else◌, bytes_eq, filter}
+use Rattle.std.specs.Prelude.{length, nat_le, nat_lt, option_and_then, option_map, Option, Some, None}
 use Rattle.std.specs.List.{filter_map, list_any}
 use Rattle.std.specs.Option.{option_map_or}
 use Rattle.std.specs.Ordering.{nat_cmp, is_lt}

@@ -1,25 +1,6 @@
 -- What the rows of a view were answered with, where from, and under which keys.
-use Rattle.std.specs.Prelude.{
-  ℕ,
-  ◌-◌,
-  ◌&&◌,
-  ◌∷◌,
-  [],
-  List,
-  if◌then◌else◌,
-  count_by,
-  length,
-  map,
-  option_and_then,
-  option_map,
-  is_none,
-  is_some,
-  Option,
-  None,
-  Result,
-  Ok,
-  Err,
-}
+use Rattle.std.specs.Prelude.{ℕ, ◌-◌, ◌&&◌, ◌∷◌, [], List, if◌then◌else◌, count_by, length, map, option_and_then, option_map}
+use Rattle.std.specs.Prelude.{is_none, is_some, Option, None, Result, Ok, Err}
 use Rattle.std.specs.Option.{option_or}
 use Rattle.rl_names.specs.declared.row.Row.{Row}
 use Rattle.rl_view_spec.specs.Closure.{Text, Registered, row_of}

@@ -1,25 +1,6 @@
 -- A book: a view from its opening on, with its calls and what has executed so far.
-use Rattle.std.specs.Prelude.{
-  ◌≡◌,
-  ◌≤◌,
-  ◌⊎◌,
-  ◌&&◌,
-  ◌++◌,
-  ◌∷◌,
-  [],
-  ℕ,
-  List,
-  Bool,
-  IsTrue,
-  true,
-  false,
-  not,
-  bytes_eq,
-  is_some,
-  length,
-  map,
-  Some,
-}
+use Rattle.std.specs.Prelude.{◌≡◌, ◌≤◌, ◌⊎◌, ◌&&◌, ◌++◌, ◌∷◌, [], ℕ, List, Bool, IsTrue, true, false, not, bytes_eq}
+use Rattle.std.specs.Prelude.{is_some, length, map, Some}
 use Rattle.std.specs.List.{list_all, list_any}
 use Rattle.rl_view_spec.specs.Closure.{Text, Registered}
 use Rattle.rl_view_spec.specs.Progress.{name_at, next_row, HasDistinctNames}

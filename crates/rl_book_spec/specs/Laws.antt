@@ -1,37 +1,7 @@
 -- What follows of the definitions of batches and calls, as statements.
-use Rattle.std.specs.Prelude.{
-  ◌+◌,
-  ◌==◌,
-  ◌&&◌,
-  count_by,
-  fold,
-  not,
-  true,
-  is_none,
-  slice_set,
-  ◌++◌,
-  ◌≡◌,
-  ◌≤◌,
-  ◌<◌,
-  ◌⊎◌,
-  ⊤,
-  ℕ,
-  List,
-  [],
-  ◌∷◌,
-  Contains,
-  IsTrue,
-  IsFalse,
-  flat_map,
-  length,
-  Some,
-  None,
-  is_some,
-  if◌then◌else◌,
-  option_map,
-  slice_get,
-  Ok,
-}
+use Rattle.std.specs.Prelude.{◌+◌, ◌==◌, ◌&&◌, count_by, fold, not, true, is_none, slice_set, ◌++◌, ◌≡◌, ◌≤◌, ◌<◌}
+use Rattle.std.specs.Prelude.{◌⊎◌, ⊤, ℕ, List, [], ◌∷◌, Contains, IsTrue, IsFalse, flat_map, length, Some, None, is_some}
+use Rattle.std.specs.Prelude.{if◌then◌else◌, option_map, slice_get, Ok}
 use Rattle.std.specs.List.{list_any}
 use Rattle.std.specs.List.Sorted.{IsPermutation}
 use Rattle.rl_names.specs.declared.query.Query.{Query}

@@ -1,36 +1,6 @@
 -- What a view asks for: its batches, those that wait, and its asks.
-use Rattle.std.specs.Prelude.{
-  ℕ,
-  ◌+◌,
-  ◌&&◌,
-  ◌||◌,
-  ◌==◌,
-  ◌∷◌,
-  [],
-  ◌++◌,
-  List,
-  Bool,
-  true,
-  false,
-  not,
-  if◌then◌else◌,
-  bytes_eq,
-  drop,
-  filter,
-  length,
-  map,
-  nat_le,
-  slice_get,
-  slice_set,
-  take,
-  is_none,
-  Option,
-  Some,
-  None,
-  Result,
-  Ok,
-  Err,
-}
+use Rattle.std.specs.Prelude.{ℕ, ◌+◌, ◌&&◌, ◌||◌, ◌==◌, ◌∷◌, [], ◌++◌, List, Bool, true, false, not, if◌then◌else◌}
+use Rattle.std.specs.Prelude.{bytes_eq, drop, filter, length, map, nat_le, slice_get, slice_set, take, is_none, Option, Some, None, Result, Ok, Err}
 use Rattle.std.specs.List.{enumerate_from, list_all, list_any, range_with_len}
 use Rattle.std.specs.Option.{option_map_or}
 use Rattle.rl_view_spec.specs.Closure.{Text, Registered, has_feature, in_closures}

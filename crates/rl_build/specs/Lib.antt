@@ -1,3 +1,4 @@
+pub mod Sight
 pub mod Context
 pub mod Sheet
 pub mod Payload

@@ -11,6 +11,7 @@ use Rattle.rl_defs.specs.Catalogue.{Catalogue, file_of, module_named}
 use Rattle.rl_defs.specs.declared.module_def.ModuleDef.{ModuleDef}
 use Rattle.rl_build.specs.declared.context.Context.{Context}
 use Rattle.rl_build.specs.declared.payloads.Payload.{Payload}
+use Rattle.rl_build.specs.Sight.{Sight}
 
 -- the text of a file and a line end behind it; a file that is not there gives nothing
 abbrev pub file_lines : Catalogue → List ℕ → List ℕ
@@ -25,13 +26,17 @@ abbrev pub payload_of_module : Catalogue → ModuleDef → Payload
 payload_of_module c m = record { script = joined c m.scripts; styles = []; messages = [] }
 
 -- what a name brings, where it has a sheet
-abbrev pub payload_of : Catalogue → Context → List ℕ → Option Payload
-payload_of c ctx name = option_map (payload_of_module c) (module_named c name)
+abbrev pub payload_of : Sight → Context → List ℕ → Option Payload
+payload_of s ctx name = option_map (payload_of_module s.catalogue) (module_named s.catalogue name)
 
 -- what holds of a name and of what it brings: the name is one, the texts are UTF-8, and the messages are in order
 abbrev pub IsBrought : List ℕ → Payload → Type 0
 IsBrought name p = IsTrue (is_name name) × IsUtf8 p.script × IsUtf8 p.styles × AreTexts p.messages × AreAscending p.messages
 
--- the hash of all that a module brings
+-- all that a module brings, as one text
+abbrev pub text_of : Payload → List ℕ
+text_of p = payload_text p.script p.styles p.messages
+
+-- the hash of that text
 abbrev pub version_of : Payload → List ℕ
-version_of p = hash_5 (payload_text p.script p.styles p.messages)
+version_of p = hash_5 (text_of p)

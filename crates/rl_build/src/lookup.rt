@@ -3,6 +3,7 @@ ghost use Rattle.std.specs.Prelude.{◌≡◌, [], IfOk, IfSome, IsTrue, IsUtf8,
 ghost use Rattle.rl_names.specs.Name.{is_name};
 ghost use Rattle.rl_defs.specs.Catalogue.{module_named};
 ghost use Rattle.rl_wire.specs.Message.{AreAscending};
+ghost use Rattle.rl_build.specs.Sight.{sight};
 ghost use Rattle.rl_build.specs.Sheet.{sheet_of, sheet_of_module, AreAllNames};
 ghost use Rattle.rl_build.specs.Payload.{payload_of, payload_of_module, IsBrought};
 
@@ -12,6 +13,7 @@ use crate::sheets::Sheet;
 use crate::texts::{distinct_names, joined};
 use rl_defs::{Catalog, ModuleDef};
 use rl_names::{Name, NoMemory, Seq, Text};
+use rl_pages::{Pages, Viewer};
 use std::alloc::Global;
 
 #[tactic(auto, using(crate::proofs::KnownLemmas::named_lawfully))]
@@ -47,10 +49,12 @@ fn sheet_of_module(alloc: Global, module: &ModuleDef) -> Result<Sheet, NoMemory>
 pub fn sheet(
     alloc: Global,
     catalog: &Catalog,
+    pages: &Pages,
+    viewer: &Viewer,
     ctx: &Context,
     name: &[u8],
 ) -> Result<Option<Sheet>, NoMemory>
-    ensures { IfOk result (λ s. s ≡ sheet_of catalog.now ctx.now name.now) }
+    ensures { IfOk result (λ s. s ≡ sheet_of (sight catalog.now pages.now.entries viewer.now) ctx.now name.now) }
 {
     match module_of(catalog, name) {
         Some(module) => Ok(Some(sheet_of_module(alloc, module)?)),
@@ -61,19 +65,29 @@ pub fn sheet(
 /// The group and the source of a name's sheet, or none where it has no sheet.
 pub fn group_and_source<'a>(
     catalog: &'a Catalog,
+    pages: &Pages,
+    viewer: &Viewer,
     ctx: &Context,
     name: &[u8],
 ) -> Option<(&'a str, &'a str)>
-    ensures group { option_map (λ p. p.0.now) result ≡ option_map (λ s. s.group) (sheet_of catalog.now ctx.now name.now) }
-    ensures source { option_map (λ p. p.1.now) result ≡ option_map (λ s. s.source) (sheet_of catalog.now ctx.now name.now) }
+    ensures group { option_map (λ p. p.0.now) result
+        ≡ option_map (λ s. s.group) (sheet_of (sight catalog.now pages.now.entries viewer.now) ctx.now name.now) }
+    ensures source { option_map (λ p. p.1.now) result
+        ≡ option_map (λ s. s.source) (sheet_of (sight catalog.now pages.now.entries viewer.now) ctx.now name.now) }
 {
     let module = module_of(catalog, name)?;
     Some((module.group.as_str(), module.source.as_str()))
 }
 
 /// All names with a sheet, in byte order.
-pub fn names(alloc: Global, catalog: &Catalog, ctx: &Context) -> Result<Vec<Name>, NoMemory>
-    ensures { IfOk result (λ v. AreAllNames catalog.now ctx.now v.items) }
+pub fn names(
+    alloc: Global,
+    catalog: &Catalog,
+    pages: &Pages,
+    viewer: &Viewer,
+    ctx: &Context,
+) -> Result<Vec<Name>, NoMemory>
+    ensures { IfOk result (λ v. AreAllNames (sight catalog.now pages.now.entries viewer.now) ctx.now v.items) }
 {
     let modules = catalog.modules();
     let mut names = Vec::with_capacity(alloc, modules.len())?;
@@ -103,15 +117,17 @@ fn payload_of_module(
 pub fn payload(
     alloc: Global,
     catalog: &Catalog,
+    pages: &Pages,
+    viewer: &Viewer,
     ctx: &Context,
     name: &[u8],
 ) -> Result<Option<Payload>, NoMemory>
-    ensures value { IfOk result (λ p. p ≡ payload_of catalog.now ctx.now name.now) }
+    ensures value { IfOk result (λ p. p ≡ payload_of (sight catalog.now pages.now.entries viewer.now) ctx.now name.now) }
     ensures ascending { IfOk result (λ p. IfSome p (λ p. AreAscending p.messages)) }
 
     // So a part can be made of it.
     ensures lawful { IfOk result (λ p. IfSome p (IsBrought name.now)) }
-    ensures with_sheet { IfOk result (λ p. is_some p ≡ is_some (sheet_of catalog.now ctx.now name.now)) }
+    ensures with_sheet { IfOk result (λ p. is_some p ≡ is_some (sheet_of (sight catalog.now pages.now.entries viewer.now) ctx.now name.now)) }
 {
     match module_of(catalog, name) {
         Some(module) => Ok(Some(payload_of_module(alloc, catalog, module)?)),

@@ -1,8 +1,11 @@
 //! What no clause says: worked examples, with ample memory.
+ghost use Rattle.std.specs.Prelude.{IfOk, IfSome};
+ghost use Rattle.rl_wire.specs.Message.{AreAscending};
 
-use crate::{Context, group_and_source, names, payload, sheet, version};
+use crate::{Context, Payload, Sheet, group_and_source, names, payload, sheet, version};
 use rl_defs::Catalog;
-use rl_names::Text;
+use rl_names::{NoMemory, Text};
+use rl_pages::{Pages, Viewer};
 use std::alloc::Global;
 use std::test::Fail;
 
@@ -63,10 +66,34 @@ fn english(alloc: Global, catalog: &Catalog) -> Result<Context, Fail> {
     Ok(Context::read(alloc, catalog, b"en", b"vector", false)?)
 }
 
+/// What a name brings to nobody by a wiki without pages.
+fn payload_of(
+    alloc: Global,
+    catalog: &Catalog,
+    ctx: &Context,
+    name: &[u8],
+) -> Result<Option<Payload>, NoMemory>
+    ensures { IfOk result (λ found. IfSome found (λ p. AreAscending p.messages)) }
+{
+    let pages = Pages::empty(alloc)?;
+    payload(alloc, catalog, &pages, &Viewer::Anon, ctx, name)
+}
+
+/// The sheet of a name for nobody by a wiki without pages.
+fn sheet_of(
+    alloc: Global,
+    catalog: &Catalog,
+    ctx: &Context,
+    name: &[u8],
+) -> Result<Option<Sheet>, NoMemory> {
+    let pages = Pages::empty(alloc)?;
+    sheet(alloc, catalog, &pages, &Viewer::Anon, ctx, name)
+}
+
 /// What a name brings in a line: the version, the styles, the number of messages and the script.
 fn brought(alloc: Global, catalog: &Catalog, name: &[u8]) -> Result<String, Fail> {
     let ctx = english(alloc, catalog)?;
-    let Some(payload) = payload(alloc, catalog, &ctx, name)? else {
+    let Some(payload) = payload_of(alloc, catalog, &ctx, name)? else {
         return Ok(String::from_str(alloc, "nothing")?);
     };
     let version = version(alloc, &payload)?;
@@ -118,7 +145,7 @@ fn texts(alloc: Global, texts: &[Text]) -> Result<String, Fail> {
 /// A sheet in a line: the group and the source, the dependencies, and the skip.
 fn sheet_line(alloc: Global, catalog: &Catalog, name: &[u8]) -> Result<String, Fail> {
     let ctx = english(alloc, catalog)?;
-    let Some(sheet) = sheet(alloc, catalog, &ctx, name)? else {
+    let Some(sheet) = sheet_of(alloc, catalog, &ctx, name)? else {
         return Ok(String::from_str(alloc, "nothing")?);
     };
     let deps = texts(alloc, sheet.deps.as_slice())?;
@@ -160,8 +187,11 @@ const GROUPS: [(&[u8], &str, &str); 5] = [
 fn groups_and_sources(rt: HostRuntime) -> Result<(), Fail> {
     let catalog = Catalog::read(rt.alloc(), WIKI.as_bytes())?;
     let ctx = english(rt.alloc(), &catalog)?;
+    let pages = Pages::empty(rt.alloc())?;
     for (name, group, source) in &GROUPS {
-        let found = group_and_source(&catalog, &ctx, name).unwrap_or(("-", "-"));
+        let found = group_and_source(&catalog, &pages, &Viewer::Anon, &ctx, name).unwrap_or((
+            "-", "-",
+        ));
         assert!(rt; found.0 == *group);
         assert!(rt; found.1 == *source);
     }
@@ -172,7 +202,8 @@ fn groups_and_sources(rt: HostRuntime) -> Result<(), Fail> {
 fn all_names(alloc: Global, catalog: &Catalog) -> Result<String, Fail> {
     let ctx = english(alloc, catalog)?;
     let mut out = String::new(alloc);
-    for name in &names(alloc, catalog, &ctx)? {
+    let pages = Pages::empty(alloc)?;
+    for name in &names(alloc, catalog, &pages, &Viewer::Anon, &ctx)? {
         out.push_str(" ")?;
         out.push_str(name.as_str())?;
     }

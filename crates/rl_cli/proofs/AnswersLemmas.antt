@@ -10,15 +10,18 @@ use Rattle.rl_base.specs.Files.{Files}
 use Rattle.rl_base.specs.Written.{appended}
 use Rattle.rl_names.specs.declared.counted.Counted.TheVariants as counted
 use Rattle.rl_names.specs.declared.counted.TheConstants as limits
+use Rattle.rl_names.specs.declared.name.Key.{Key}
 use Rattle.rl_view_spec.specs.Closure.{Text}
+use Rattle.rl_view_spec.specs.View.{Throws}
 use Rattle.rl_script_spec.specs.Script as script
 use Rattle.rl_script_spec.proofs.PrintedLemmas.{printed_holds, printed_text}
-use Rattle.rl_drive.specs.Drives.{never}
-use Rattle.rl_cli.specs.Answers.{Answers, AnswersCommand, AnswersVerdict, IsLongFile, IsPrinted, IsUnreadFile, HoldsOfScript, PrintsSoundly, Writes, Completes}
+use Rattle.rl_view.specs.Heard.{after_hearing}
+use Rattle.rl_cli.specs.Answers.{Answers, AnswersCommand, AnswersVerdict, AreHeard, Heard, IsLongFile, IsPrinted, IsUnreadFile, HoldsOfScript, PrintsSoundly}
+use Rattle.rl_cli.specs.Answers.{Writes, Completes}
 use Rattle.rl_cli.specs.Answers.{file_end, first_end, bytes_at, command_end, expected_end}
 use Rattle.rl_cli.specs.Ending.{Ending, plain, about, long, of_fault, of_verdict, written}
 use Rattle.rl_cli.specs.Files.{AreFiles, IsFile, IsTooLong, IsUnread, Reaches}
-use Rattle.rl_cli.specs.Verdict.{Verdict, Fault, Breaks, Exceeds, file_at, of_script, verdict_on}
+use Rattle.rl_cli.specs.Verdict.{Verdict, Fault, Breaks, Exceeds, executed_by, file_at, of_script, verdict_on}
 use Rattle.rl_cli.specs.Words.{Command, Drive, command_of, files_of, word_at, names_at}
 use Rattle.rl_cli.specs.declared.status.Status.{Status}
 use Rattle.rl_cli.specs.declared.status.Status.TheVariants as statuses
@@ -77,9 +80,10 @@ worked_not_file other h = tt
 not_file : (s : Status) (count : ℕ) → IsNotFile s → s ≡ statuses.TooLarge counted.FileBytes count → ⊥
 not_file s count h e = subst IsNotFile e h refl
 
-pub too_large : (told : Option Files) (words : List Text) (end : Ending) (old new : Option Text) → Answers told words end old new → (count : ℕ) →
+pub too_large : (throws : Throws) (told : Option Files) (words : List Text) (end : Ending) (old new : Option Text) (heard heard' : Heard) →
+    Answers throws told words end old new heard heard' → (count : ℕ) →
     end.status ≡ statuses.TooLarge counted.FileBytes count → IsLongFile told words end.word count
-too_large told words end old new a count e =
+too_large throws told words end old new heard heard' a count e =
     elim a [
       | inl bad ↦ absurd (not_file end.status count (along IsNotFile end (plain statuses.BadWords) bad.1 tt) e)
       | inr good ↦ of_command good.0 good.1
@@ -93,7 +97,7 @@ too_large told words end old new a count e =
     same_count word h = let s : statuses.TooLarge counted.FileBytes count ≡ statuses.TooLarge counted.FileBytes (limits.MAX_FILE_BYTES + 1) = sym e
         ∙ same_status end (long word) h in cc
 
-    of_command : (command : Command) → command_of words ≡ Some command → AnswersCommand told words command end old new →
+    of_command : (command : Command) → command_of words ≡ Some command → AnswersCommand throws told words command end old new heard heard' →
         IsLongFile told words end.word count
     of_command command is b =
         elim b [
@@ -107,7 +111,7 @@ too_large told words end old new a count e =
                           (command, is, far.1, far.2, same_count far.0 far.3)
                       | inr done ↦ absurd
                           (not_file end.status count (worked_not_file end.status
-                          (verdict_worked (verdict_on command done.0) end old new (is_of_work command done.0) done.2))
+                          (verdict_worked (verdict_on throws command done.0) end old new (is_of_work throws command done.0) done.2))
                           e)
                     ]
               ]
@@ -165,47 +169,59 @@ one_file told name (bytes ∷ []) are = are.0
 one_file told name [] are = absurd are
 one_file told name (bytes ∷ more ∷ rest) are = absurd are.1
 
-script_written : (told : Option Files) (words : List Text) (files : List Text) (s : Status) (old new : Option Text) →
-    AreFiles told (word_at words 1 ∷ []) files → IsWritten (verdict_on Drive files) s old new → PrintsSoundly told words s old new
-script_written told words files s old new are w =
-    let bytes = file_at files 0 in
-    let prints = script_prints 1 (script.verdict_of never bytes) w.printed w.is in
-    record {
-      bytes = bytes;
-      file = one_file told (word_at words 1) files are;
-      writes = subst (λ (text : Text). Writes s text old new) (sym (printed_text never bytes w.printed.text w.printed.ready prints)) w.writes;
-      sound = printed_holds never bytes w.printed.text w.printed.ready prints;
-    }
+printed_heard : (s : Status) (executed : List (Key × Text)) (heard heard' : Heard) → IsPrinted s → AreHeard s executed heard heard' →
+    heard' ≡ after_hearing executed heard
+printed_heard statuses.Done executed heard heard' h a = a
+printed_heard statuses.NotReady executed heard heard' h a = a
+printed_heard statuses.WriteFault executed heard heard' h a = a
+printed_heard statuses.BadWords executed heard heard' h a = absurd h
+printed_heard (statuses.BadInput word line why) executed heard heard' h a = absurd h
+printed_heard (statuses.TooLarge what count) executed heard heard' h a = absurd h
+printed_heard statuses.ReadFault executed heard heard' h a = absurd h
+printed_heard statuses.NoMemory executed heard heard' h a = absurd h
 
-command_written : (told : Option Files) (words : List Text) (end : Ending) (old new : Option Text) → AnswersCommand told words Drive end old new →
-    IsPrinted end.status → PrintsSoundly told words end.status old new
-command_written told words end old new a h = elim a [
-  | inl memory ↦ absurd (back IsPrinted end (plain statuses.NoMemory) memory.0 h)
-  | inr others ↦
-      elim others [
-        | inl unread ↦ absurd (back IsPrinted end (about unread.0 statuses.ReadFault) unread.1 h)
-        | inr rest ↦
-            elim rest [
-              | inl far ↦ absurd (back IsPrinted end (long far.0) far.3 h)
-              | inr done ↦ script_written told words done.0 end.status old new done.1
-                  (written_verdict (verdict_on Drive done.0) end old new done.2 h)
-            ]
-      ]
-]
+module _ (throws : Throws) (told : Option Files) (words : List Text) (end : Ending) (old new : Option Text) (heard heard' : Heard) where
+  script_written : (files : List Text) → AreFiles told (word_at words 1 ∷ []) files → IsWritten (verdict_on throws Drive files) end.status old new
+      → heard' ≡ after_hearing (executed_by throws Drive files) heard → PrintsSoundly throws told words end.status old new heard heard'
+  script_written files are w h =
+      let bytes = file_at files 0 in
+      let prints = script_prints 1 (script.verdict_of throws bytes) w.printed w.is in
+      record {
+        bytes = bytes;
+        file = one_file told (word_at words 1) files are;
+        writes = subst (λ (text : Text). Writes end.status text old new)
+            (sym (printed_text throws bytes w.printed.text w.printed.ready prints)) w.writes;
+        sound = printed_holds throws bytes w.printed.text w.printed.ready prints;
+        heard = h;
+      }
 
-pub headline : (told : Option Files) (words : List Text) (end : Ending) (old new : Option Text) → Answers told words end old new →
-    HoldsOfScript told words end.status old new
-headline told words end old new a = λ e h. elim a [
-  | inl bad ↦ absurd (no_command bad.0 e)
-  | inr good ↦ command_written told words end old new
-      (subst (λ (command : Command). AnswersCommand told words command end old new) (same good.0 good.1 e) good.2) h
-]
-  where
-    no_command : command_of words ≡ None → command_of words ≡ Some Drive → ⊥
-    no_command n e = cc
+  command_written : AnswersCommand throws told words Drive end old new heard heard' → IsPrinted end.status →
+      PrintsSoundly throws told words end.status old new heard heard'
+  command_written a h = elim a [
+    | inl memory ↦ absurd (back IsPrinted end (plain statuses.NoMemory) memory.0 h)
+    | inr others ↦
+        elim others [
+          | inl unread ↦ absurd (back IsPrinted end (about unread.0 statuses.ReadFault) unread.1 h)
+          | inr rest ↦
+              elim rest [
+                | inl far ↦ absurd (back IsPrinted end (long far.0) far.3 h)
+                | inr done ↦ script_written done.0 done.1 (written_verdict (verdict_on throws Drive done.0) end old new done.2 h)
+                    (printed_heard end.status (executed_by throws Drive done.0) heard heard' h done.3)
+              ]
+        ]
+  ]
 
-    same : (command : Command) → command_of words ≡ Some command → command_of words ≡ Some Drive → command ≡ Drive
-    same command e d = cc
+  pub headline : Answers throws told words end old new heard heard' → HoldsOfScript throws told words end.status old new heard heard'
+  headline a = λ e h. elim a [
+    | inl bad ↦ absurd (no_command bad.0 e)
+    | inr good ↦ command_written (subst (λ (command : Command). AnswersCommand throws told words command end old new heard heard') (same good.0 good.1 e) good.2) h
+  ]
+    where
+      no_command : command_of words ≡ None → command_of words ≡ Some Drive → ⊥
+      no_command n e = cc
+
+      same : (command : Command) → command_of words ≡ Some command → command_of words ≡ Some Drive → command ≡ Drive
+      same command e d = cc
 
 -- ---- completeness
 
@@ -269,24 +285,24 @@ unread_ends files words place faults faults' blamed u q = elim u [
       (Some (about place statuses.ReadFault))) absent
 ]
 
-expected_of : (files : Files) (words : List Text) (command : Command) → command_of words ≡ Some command →
-    expected_end files words ≡ command_end files words command
-expected_of files words command e = ap (λ (o : Option Command). option_map_or (command_end files words) o (plain statuses.BadWords)) e
+expected_of : (throws : Throws) (files : Files) (words : List Text) (command : Command) → command_of words ≡ Some command →
+    expected_end throws files words ≡ command_end throws files words command
+expected_of throws files words command e = ap (λ (o : Option Command). option_map_or (command_end throws files words) o (plain statuses.BadWords)) e
 
-ended_by_file : (files : Files) (words : List Text) (command : Command) (place : ℕ) (end : Ending) → command_of words ≡ Some command →
-    Reaches (Some files) words (files_of command) place → file_end files words place ≡ Some end → expected_end files words ≡ end
-ended_by_file files words command place end is r e =
-    expected_of files words command is
-    ∙ ap (λ (o : Option Ending). unwrap_or o (of_verdict (verdict_on command (bytes_at files words (files_of command)))))
+ended_by_file : (throws : Throws) (files : Files) (words : List Text) (command : Command) (place : ℕ) (end : Ending) → command_of words ≡ Some command →
+    Reaches (Some files) words (files_of command) place → file_end files words place ≡ Some end → expected_end throws files words ≡ end
+ended_by_file throws files words command place end is r e =
+    expected_of throws files words command is
+    ∙ ap (λ (o : Option Ending). unwrap_or o (of_verdict (verdict_on throws command (bytes_at files words (files_of command)))))
     (reached files words (files_of command) place end r e)
 
-ended_by_verdict : (files : Files) (words : List Text) (command : Command) (all : List Text) → command_of words ≡ Some command →
-    AreFiles (Some files) (names_at words (files_of command)) all → expected_end files words ≡ of_verdict (verdict_on command all)
-ended_by_verdict files words command all is are =
-    expected_of files words command is
-    ∙ (ap (λ (o : Option Ending). unwrap_or o (of_verdict (verdict_on command (bytes_at files words (files_of command)))))
+ended_by_verdict : (throws : Throws) (files : Files) (words : List Text) (command : Command) (all : List Text) → command_of words ≡ Some command →
+    AreFiles (Some files) (names_at words (files_of command)) all → expected_end throws files words ≡ of_verdict (verdict_on throws command all)
+ended_by_verdict throws files words command all is are =
+    expected_of throws files words command is
+    ∙ (ap (λ (o : Option Ending). unwrap_or o (of_verdict (verdict_on throws command (bytes_at files words (files_of command)))))
     (none_ends files words (files_of command) all are)
-    ∙ ap (λ (bytes : List Text). of_verdict (verdict_on command bytes)) (are_bytes files words (files_of command) all are))
+    ∙ ap (λ (bytes : List Text). of_verdict (verdict_on throws command bytes)) (are_bytes files words (files_of command) all are))
 
 verdict_end : (v : Verdict) (end : Ending) (old new : Option Text) → AnswersVerdict v end old new → (end.status ≡ statuses.WriteFault → ⊥) →
     (end ≡ plain statuses.NoMemory) ⊎ (end ≡ of_verdict v)
@@ -297,46 +313,46 @@ verdict_end (Ok printed) end old new a w = elim a [
 ]
 verdict_end (Err fault) end old new a w = elim a.0 [ inl told ↦ inr told | inr memory ↦ inl memory ]
 
-unread_expected : (files : Files) (words : List Text) (end : Ending) (place faults faults' : ℕ) (blamed : Option Text) →
+unread_expected : (throws : Throws) (files : Files) (words : List Text) (end : Ending) (place faults faults' : ℕ) (blamed : Option Text) →
     end ≡ about place statuses.ReadFault → IsUnreadFile faults faults' blamed (Some files) words end.word → IsQuiet faults faults' →
-    end ≡ expected_end files words
-unread_expected files words end place faults faults' blamed e u q =
+    end ≡ expected_end throws files words
+unread_expected throws files words end place faults faults' blamed e u q =
     let word : end.word ≡ place = ap (λ (x : Ending). x.word) e in
-    let ends : expected_end files words ≡ about end.word statuses.ReadFault =
-    ended_by_file files words u.0 end.word (about end.word statuses.ReadFault) u.1 u.2 (unread_ends files words end.word faults faults' blamed u.3 q) in
+    let ends : expected_end throws files words ≡ about end.word statuses.ReadFault =
+    ended_by_file throws files words u.0 end.word (about end.word statuses.ReadFault) u.1 u.2 (unread_ends files words end.word faults faults' blamed u.3 q) in
     e ∙ (ap (λ (w : ℕ). about w statuses.ReadFault) (sym word) ∙ sym ends)
 
-pub complete : (told : Option Files) (words : List Text) (end : Ending) (old new : Option Text) (faults faults' out out' : ℕ) (blamed : Option Text) →
-    Answers told words end old new
+pub complete : (throws : Throws) (told : Option Files) (words : List Text) (end : Ending) (old new : Option Text) (heard heard' : Heard)
+    (faults faults' out out' : ℕ) (blamed : Option Text) → Answers throws told words end old new heard heard'
     → (end.status ≡ statuses.ReadFault → IsUnreadFile faults faults' blamed told words end.word) →
-    (end.status ≡ statuses.WriteFault → Rose out out') → Completes told words faults faults' out out' end
-complete None words end old new faults faults' out out' blamed a r w = tt
-complete (Some files) words end old new faults faults' out out' blamed a r w =
+    (end.status ≡ statuses.WriteFault → Rose out out') → Completes throws told words faults faults' out out' end
+complete throws None words end old new heard heard' faults faults' out out' blamed a r w = tt
+complete throws (Some files) words end old new heard heard' faults faults' out out' blamed a r w =
     λ q q'. elim a [
-      | inl bad ↦ inr (bad.1 ∙ sym (ap (λ (o : Option Command). option_map_or (command_end files words) o (plain statuses.BadWords)) bad.0))
+      | inl bad ↦ inr (bad.1 ∙ sym (ap (λ (o : Option Command). option_map_or (command_end throws files words) o (plain statuses.BadWords)) bad.0))
       | inr good ↦ of_command q q' good.0 good.1 good.2
     ]
   where
     of_command : IsQuiet faults faults' → IsQuiet out out' → (command : Command) → command_of words ≡ Some command →
-        AnswersCommand (Some files) words command end old new → (end ≡ plain statuses.NoMemory) ⊎ (end ≡ expected_end files words)
+        AnswersCommand throws (Some files) words command end old new heard heard' → (end ≡ plain statuses.NoMemory) ⊎ (end ≡ expected_end throws files words)
     of_command q q' command is b =
         elim b [
           | inl memory ↦ inl memory.0
           | inr others ↦
               elim others [
-                | inl unread ↦ inr (unread_expected files words end unread.0 faults faults' blamed unread.1
+                | inl unread ↦ inr (unread_expected throws files words end unread.0 faults faults' blamed unread.1
                     (r (same_status end (about unread.0 statuses.ReadFault) unread.1)) q)
                 | inr rest ↦
                     elim rest [
-                      | inl far ↦ inr (far.3 ∙ sym (ended_by_file files words command far.0 (long far.0) is far.1 (long_ends files words far.0 far.2)))
+                      | inl far ↦ inr (far.3 ∙ sym (ended_by_file throws files words command far.0 (long far.0) is far.1 (long_ends files words far.0 far.2)))
                       | inr done ↦ of_done command done.0 is done.1
-                          (verdict_end (verdict_on command done.0) end old new done.2 (λ e. rose_quiet out out' (w e) q'))
+                          (verdict_end (verdict_on throws command done.0) end old new done.2 (λ e. rose_quiet out out' (w e) q'))
                     ]
               ]
         ]
       where
         of_done : (command : Command) (all : List Text) → command_of words ≡ Some command →
             AreFiles (Some files) (names_at words (files_of command)) all →
-            ((end ≡ plain statuses.NoMemory) ⊎ (end ≡ of_verdict (verdict_on command all))) →
-            (end ≡ plain statuses.NoMemory) ⊎ (end ≡ expected_end files words)
-        of_done command all is are v = elim v [ inl memory ↦ inl memory | inr same ↦ inr (same ∙ sym (ended_by_verdict files words command all is are)) ]
+            ((end ≡ plain statuses.NoMemory) ⊎ (end ≡ of_verdict (verdict_on throws command all))) →
+            (end ≡ plain statuses.NoMemory) ⊎ (end ≡ expected_end throws files words)
+        of_done command all is are v = elim v [ inl memory ↦ inl memory | inr same ↦ inr (same ∙ sym (ended_by_verdict throws files words command all is are)) ]

@@ -1,5 +1,5 @@
 -- What a verdict counts is never the size of a file.
-use Rattle.std.proofs.Common.{◌≡◌, ◌≢◌, ℕ, Bool, true, false, List, length, Option, Some, None, refl, ap, sym, subst, ◌∙◌}
+use Rattle.std.proofs.Common.{◌≡◌, ◌≢◌, ℕ, Bool, true, false, List, [], length, Option, Some, None, refl, ap, sym, subst, ◌∙◌}
 use Rattle.std.specs.Prelude.{if◌then◌else◌, nat_lt, option_map, slice_get, Result, Ok, Err}
 use Rattle.std.specs.Option.{option_map_or}
 use Rattle.std.specs.Str.{is_utf8}
@@ -11,11 +11,12 @@ use Rattle.rl_view_spec.specs.View.{Throws}
 use Rattle.rl_script_spec.specs.Script as script
 use Rattle.rl_script_spec.specs.Script.{BadLine, TooMany, Fault, Bad, TooManySteps, verdict_of, fault_verdict, breach_verdict, first_fault, lines_of, rows_in}
 use Rattle.rl_script_spec.specs.Script.{printed}
-use Rattle.rl_drive.specs.Drives.{never}
 use Rattle.rl_defs.specs.Breach.{reading}
 use Rattle.rl_defs.specs.Catalogue.{Catalogue}
 use Rattle.rl_defs.specs.Refusal as definitions
 use Rattle.rl_defs.proofs.CountingLemmas.{IsOfDefinitions, IsOfReading, reading_is_of_definitions}
+use Rattle.rl_pages.specs.declared.viewer.Viewer.TheVariants.{Anon}
+use Rattle.rl_build.specs.Sight.{sight}
 use Rattle.rl_loadphp.specs.Answer.{answer_of}
 use Rattle.rl_loadphp.specs.Refusal as query
 use Rattle.rl_loadphp.specs.declared.answers.Answer.{Answer}
@@ -69,7 +70,7 @@ script_of_work place (TooMany what count) h = h
 breach_of_work : (place : ℕ) (refusal : definitions.Refusal) → IsOfDefinitions refusal → IsOfWork (Err (of_breach place refusal))
 breach_of_work place (definitions.TooMany what count) h = h
 breach_of_work place definitions.NotToml h = tt
-breach_of_work place (definitions.UnknownField owner field) h = tt
+breach_of_work place (definitions.UnknownField kind owner field) h = tt
 breach_of_work place (definitions.BadName text) h = tt
 breach_of_work place (definitions.BadDependency owner name) h = tt
 breach_of_work place (definitions.NoFile owner file) h = tt
@@ -83,12 +84,12 @@ answer_of_work place (Err (query.TooManyNames count)) = λ e. cc
 answer_of_work place (Err (query.AnswerTooLong len)) = λ e. cc
 
 reading_of_work : (asked : Text) (r : Result Catalogue definitions.Refusal) → IsOfReading r → IsOfWork (of_reading asked r)
-reading_of_work asked (Ok catalogue) h = answer_of_work 4 (answer_of catalogue asked)
+reading_of_work asked (Ok catalogue) h = answer_of_work 4 (answer_of (sight catalogue [] Anon) asked)
 reading_of_work asked (Err refusal) h = breach_of_work 1 refusal h
 
-pub is_of_work : (command : Command) (files : List Text) → IsOfWork (verdict_on command files)
-is_of_work Drive files = script_of_work 1 (verdict_of never (file_at files 0)) (is_of_content never (file_at files 0))
-is_of_work (Load asked) files = reading_of_work asked (reading (file_at files 0)) (reading_is_of_definitions (file_at files 0))
+pub is_of_work : (throws : Throws) (command : Command) (files : List Text) → IsOfWork (verdict_on throws command files)
+is_of_work throws Drive files = script_of_work 1 (verdict_of throws (file_at files 0)) (is_of_content throws (file_at files 0))
+is_of_work throws (Load asked) files = reading_of_work asked (reading (file_at files 0)) (reading_is_of_definitions (file_at files 0))
 
 -- ---- a refusal that is told
 
@@ -103,13 +104,13 @@ script_refused place v told fault e f refusal is =
 
 -- the refusal of a query, told as a fault of its word
 pub query_refused :
-    (bytes asked : Text) (read : Result Catalogue definitions.Refusal) (catalogue : Catalogue) (told : Option query.Refusal)
-    (fault : Option Refused) → read ≡ Ok catalogue → bytes ≡ asked
-    → ((refusal : query.Refusal) → told ≡ Some refusal → answer_of catalogue bytes ≡ Err refusal)
+    (asked : Text) (read : Result Catalogue definitions.Refusal) (catalogue : Catalogue) (told : Option query.Refusal)
+    (fault : Option Refused) → read ≡ Ok catalogue
+    → ((refusal : query.Refusal) → told ≡ Some refusal → answer_of (sight catalogue [] Anon) asked ≡ Err refusal)
     → fault ≡ option_map (of_query 4) told → (refusal : Refused) → fault ≡ Some refusal → of_reading asked read ≡ Err refusal
-query_refused bytes asked read catalogue None fault e b h f refusal is =
+query_refused asked read catalogue None fault e h f refusal is =
     let none : None ≡ Some refusal = sym f ∙ is in absurd (cc)
-query_refused bytes asked read catalogue (Some r) fault e b h f refusal is =
-    let answer : answer_of catalogue asked ≡ Err r = ap (answer_of catalogue) (sym b) ∙ h r refl in
+query_refused asked read catalogue (Some r) fault e h f refusal is =
+    let answer : answer_of (sight catalogue [] Anon) asked ≡ Err r = h r refl in
     subst (λ (x : Refused). of_reading asked read ≡ Err x) (same_fault (of_query 4 r) refusal (sym f ∙ is))
     (ap (of_reading asked) e ∙ ap (of_answer 4) answer)

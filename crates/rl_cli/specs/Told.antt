@@ -1,5 +1,5 @@
 -- The line that tells a person how a call ended.
-use Rattle.std.specs.Prelude.{ℕ, ◌++◌, ◌==◌, if◌then◌else◌, List, length, Option, Some, None, codes, decimal}
+use Rattle.std.specs.Prelude.{ℕ, ◌++◌, ◌==◌, if◌then◌else◌, List, Option, Some, None, codes, decimal}
 use Rattle.std.specs.Option.{option_map_or}
 use Rattle.rl_names.specs.Limits.{limit_of, unit_of}
 use Rattle.rl_names.specs.Rules.{rule_of, sentence_of}
@@ -9,6 +9,8 @@ use Rattle.rl_base.specs.declared.fault.Reason.{Reason}
 use Rattle.rl_view_spec.specs.Closure.{Text}
 use Rattle.rl_defs.specs.declared.error.CatalogError.{CatalogError}
 use Rattle.rl_defs.specs.declared.error.CatalogError.TheVariants as breaches
+use Rattle.rl_defs.specs.declared.error.FieldKind.{FieldKind}
+use Rattle.rl_defs.specs.declared.error.FieldKind.TheVariants.{OfFile, IsModule, OfModule}
 use Rattle.rl_cli.specs.Spelt.{spelt}
 use Rattle.rl_cli.specs.Words.{word_at}
 use Rattle.rl_cli.specs.declared.status.Status.{Status}
@@ -39,22 +41,15 @@ abbrev pub had_line : Text → Text → Text → Text → Text → ℕ → Text
 had_line file owner has name fault why =
     (spelt file ++ codes ": module " ++ spelt owner) ++ (codes " " ++ has ++ codes " " ++ spelt name ++ codes ", which") ++ fault_text fault why
 
--- A field of no module. Where its name is empty, it may be a module without a name that is no table.
-abbrev pub ownerless_line : Text → Text → ℕ → Text
-ownerless_line file field why =
-    if length field == 0 then named_line file (codes "the module or the field") field (codes "is unknown or has a bad value") why
-    else named_line file (codes "the field") field (codes "is unknown or has a bad value") why
-
--- a field that definitions do not have: of no module, or of a module that is no table, or of a module
-abbrev pub field_line : Text → Text → Text → ℕ → Text
-field_line file owner field why =
-    if length owner == 0 then ownerless_line file field why
-    else if length field == 0 then named_line file (codes "module") owner (codes "is no table") why
-    else had_line file owner (codes "has the field") field (codes "is unknown or has a bad value") why
+-- a field that definitions do not have: of no module, or a module that is no table, or of a module
+abbrev pub field_line : Text → FieldKind → Text → Text → ℕ → Text
+field_line file OfFile owner field why = named_line file (codes "the field") field (codes "is unknown or has a bad value") why
+field_line file IsModule owner field why = named_line file (codes "module") owner (codes "is no table") why
+field_line file OfModule owner field why = had_line file owner (codes "has the field") field (codes "is unknown or has a bad value") why
 
 -- definitions at fault, with the module and the field
 abbrev pub breach_line : Text → CatalogError → ℕ → Text
-breach_line file (breaches.UnknownField owner field) why = field_line file owner field why
+breach_line file (breaches.UnknownField kind owner field) why = field_line file kind owner field why
 breach_line file (breaches.BadName text) why = named_line file (codes "the name") text (codes "breaks its rule") why
 breach_line file (breaches.BadDependency owner name) why = had_line file owner (codes "depends on") name (codes "is no module") why
 breach_line file (breaches.NoFile owner listed) why = had_line file owner (codes "lists the file") listed (codes "is not there") why

@@ -1,15 +1,20 @@
 -- What a command makes of its files, before anything is written.
-use Rattle.std.specs.Prelude.{ℕ, List, [], true, slice_index_or, Option, Some, None, Result, Ok, Err, option_and_then}
+use Rattle.std.specs.Prelude.{◌≡◌, ℕ, List, [], true, slice_index_or, Option, Some, None, Result, Ok, Err, option_and_then}
 use Rattle.std.specs.Option.{option_map_or}
 use Rattle.rl_names.specs.declared.counted.Counted.{Counted}
 use Rattle.rl_names.specs.declared.counted.Counted.TheVariants as counted
+use Rattle.rl_names.specs.declared.name.Key.{Key}
 use Rattle.rl_names.specs.Rules.{number_of}
 use Rattle.rl_view_spec.specs.Closure.{Text}
 use Rattle.rl_script_spec.specs.Script as script
-use Rattle.rl_drive.specs.Drives.{never}
+use Rattle.rl_view_spec.specs.View.{Throws}
+use Rattle.rl_view.specs.Heard.{HearsFront, after_hearing}
+use Rattle.rl_drive.specs.Hearing.{executions_in}
 use Rattle.rl_defs.specs.Breach.{reading}
 use Rattle.rl_defs.specs.Catalogue.{Catalogue}
 use Rattle.rl_defs.specs.Refusal as definitions
+use Rattle.rl_pages.specs.declared.viewer.Viewer.TheVariants.{Anon}
+use Rattle.rl_build.specs.Sight.{sight}
 use Rattle.rl_loadphp.specs.Answer.{answer_of}
 use Rattle.rl_loadphp.specs.Refusal as query
 use Rattle.rl_loadphp.specs.declared.answers.Answer.{Answer}
@@ -56,16 +61,27 @@ abbrev pub of_answer : ℕ → Result Answer query.Refusal → Verdict
 of_answer place (Ok answer) = Ok record { text = answer.body; ready = true }
 of_answer place (Err refusal) = Err (of_query place refusal)
 
--- bad definitions are answered before the query is looked at
+-- Bad definitions are answered before the query is looked at. The viewer is nobody, and the wiki has no pages.
 abbrev pub of_reading : Text → Result Catalogue definitions.Refusal → Verdict
-of_reading asked (Ok catalogue) = of_answer 4 (answer_of catalogue asked)
+of_reading asked (Ok catalogue) = of_answer 4 (answer_of (sight catalogue [] Anon) asked)
 of_reading asked (Err breach) = Err (of_breach 1 breach)
 
 -- the bytes of the file of this number, counted from 0
 abbrev pub file_at : List Text → ℕ → Text
 file_at files number = slice_index_or files number []
 
--- what a command makes of the bytes of its files
-abbrev pub verdict_on : Command → List Text → Verdict
-verdict_on Drive files = of_script 1 (script.verdict_of never (file_at files 0))
-verdict_on (Load asked) files = of_reading asked (reading (file_at files 0))
+-- what a command makes of the bytes of its files, where observers throw for these scripts
+abbrev pub verdict_on : Throws → Command → List Text → Verdict
+verdict_on throws Drive files = of_script 1 (script.verdict_of throws (file_at files 0))
+verdict_on throws (Load asked) files = of_reading asked (reading (file_at files 0))
+
+-- what it executes
+abbrev pub executed_by : Throws → Command → List Text → List (Key × Text)
+executed_by throws Drive files = executions_in throws (file_at files 0)
+executed_by throws (Load asked) files = []
+
+-- All that it executes is heard of, or a front of it where memory ran out. Where the work comes to nothing, nothing is.
+abbrev pub IsHeard : Result Printed WorkError → List (Key × Text) → List (List (Key × Text)) → List (List (Key × Text)) → Type 0
+IsHeard (Ok printed) executed heard heard' = heard' ≡ after_hearing executed heard
+IsHeard (Err errors.NoMemory) executed heard heard' = HearsFront executed heard heard'
+IsHeard (Err other) executed heard heard' = heard' ≡ heard

@@ -1,25 +1,29 @@
 //! The top call.
-ghost use Rattle.std.specs.Prelude.{◌≡◌, ◌↔◌, ◌≤◌, ℕ, None, Ok, length};
+ghost use Rattle.std.specs.Prelude.{◌≡◌, ◌↔◌, ◌≤◌, ℕ, List, None, Ok, length, map};
+ghost use Rattle.std.specs.List.{list_any};
+ghost use Rattle.rl_names.specs.declared.name.Key.{Key};
 ghost use Rattle.rl_base.specs.Causes.{Rose};
-ghost use Rattle.rl_cli.specs.Answers.{Answers, AnswersVerdict, Completes, HoldsOfScript, IsLongFile, IsSilent, IsUnreadFile};
+ghost use Rattle.rl_view.specs.Heard.{throws_by};
+ghost use Rattle.rl_cli.specs.Answers.{Answers, AnswersVerdict, AreHeard, Completes, HoldsOfScript, IsLongFile, IsSilent, IsUnreadFile};
 ghost use Rattle.rl_cli.specs.Ending.{ending};
 ghost use Rattle.rl_cli.specs.Meant.{meant};
-ghost use Rattle.rl_cli.specs.Verdict.{verdict_on};
+ghost use Rattle.rl_cli.specs.Verdict.{executed_by, verdict_on};
 ghost use Rattle.rl_cli.specs.Words.{command_of, files_of, texts};
 
 use crate::end::End;
 use crate::file::{FileError, read_files};
+use crate::observers::Boxes;
 use crate::output::write_all;
 use crate::status::{Ended, Status};
 use crate::words::Command;
 use crate::work::{Printed, work};
-use rl_base::{Observer, Sink, SinkError, Tree};
+use rl_base::{Hears, Observer, Sink, SinkError, Tree};
 use rl_names::{Blob, Counted, MAX_FILE_BYTES};
 use std::alloc::Global;
 
 /// Does what the words say: reads the words, fetches each file that they name and checks its size, does
-/// the work, and writes the output once it is whole. The observers are handed back, and none is told
-/// of anything yet.
+/// the work, and writes the output once it is whole. The observers are told of each execution, in their
+/// order, and a module threw where one of them throws; they are handed back.
 pub fn run<T: Tree, O: Sink>(
     alloc: Global,
     words: &[&str],
@@ -27,14 +31,20 @@ pub fn run<T: Tree, O: Sink>(
     out: &mut O,
     observers: Vec<Box<dyn Observer + Send>>,
 ) -> Ended
-    ensures observers { result.observers.items ≡ observers.items }
+    // The observers that are handed back are the same boxes in the same order, and throw as they did.
+    ensures observers { (map (λ o. o.ptr) result.observers.items ≡ map (λ o. o.ptr) observers.items)
+        × (map (λ o. o.vtable) result.observers.items ≡ map (λ o. o.vtable) observers.items) }
+    ensures throws_stay { (k : Key) (s : List ℕ) → map (λ o. throws o k s) result.observers.items ≡ map (λ o. throws o k s) observers.items }
 
-    // How the call ends, and what it wrote, by the words and the bytes of the files that they name.
+    // How the call ends, what it wrote and what was heard of, by the words and the bytes of the files that they name.
     ensures bad_words { (result.status ≡ Status.BadWords) ↔ (command_of (texts words.now) ≡ None) }
-    ensures answer { Answers (T.files tree.old) (texts words.now) (ending result.status result.word result.breach) (O.written out.old) (O.written out.new) }
+    ensures answer { Answers (throws_by (λ k s. list_any (λ o. throws o k s) observers.items))
+        (T.files tree.old) (texts words.now) (ending result.status result.word result.breach) (O.written out.old) (O.written out.new)
+        (map (λ o. ran o) observers.items) (map (λ o. ran o) result.observers.items) }
     ensures too_large { (count : ℕ) → result.status ≡ Status.TooLarge Counted.FileBytes count
         → IsLongFile (T.files tree.old) (texts words.now) result.word count }
     ensures unwritten { IsSilent result.status → O.written out.new ≡ O.written out.old }
+    ensures unheard { IsSilent result.status → map (λ o. ran o) result.observers.items ≡ map (λ o. ran o) observers.items }
 
     // A fault comes only where its own count of faults rose, or the file is told and not there.
     ensures read_fault { result.status ≡ Status.ReadFault
@@ -46,28 +56,41 @@ pub fn run<T: Tree, O: Sink>(
     ensures tree_never_falls { T.faults tree.old ≤ T.faults tree.new }
     ensures out_never_falls { O.faults out.old ≤ O.faults out.new }
 
-    // The headline of the script whose output was printed, and, where the tree tells its files, that with
-    // no fault the ending is that of the words and the files alone, but for want of memory.
-    ensures headline { HoldsOfScript (T.files tree.old) (texts words.now) result.status (O.written out.old) (O.written out.new) }
-    ensures complete { Completes (T.files tree.old) (texts words.now) (T.faults tree.old) (T.faults tree.new) (O.faults out.old) (O.faults out.new)
+    // The headline of the script whose output was printed, with what was heard of it, and, where the tree
+    // tells its files, that with no fault the ending is that of the words, the files and what observers
+    // say alone, but for want of memory.
+    ensures headline { HoldsOfScript (throws_by (λ k s. list_any (λ o. throws o k s) observers.items))
+        (T.files tree.old) (texts words.now) result.status (O.written out.old) (O.written out.new)
+        (map (λ o. ran o) observers.items) (map (λ o. ran o) result.observers.items) }
+    ensures complete { Completes (throws_by (λ k s. list_any (λ o. throws o k s) observers.items))
+        (T.files tree.old) (texts words.now) (T.faults tree.old) (T.faults tree.new) (O.faults out.old) (O.faults out.new)
         (ending result.status result.word result.breach) }
 {
+    let mut boxes = Boxes { all: observers };
     let End {
         status,
         word,
         breach,
-    } = end_of(alloc, words, tree, out);
+    } = end_of(alloc, words, tree, out, &mut boxes);
     Ended {
         status,
         word,
         breach,
-        observers,
+        observers: boxes.all,
     }
 }
 
 /// How a call ends, which writes its output.
-fn end_of<T: Tree, O: Sink>(alloc: Global, words: &[&str], tree: &mut T, out: &mut O) -> End
-    ensures answer { Answers (T.files tree.old) (texts words.now) (ending result.status result.word result.breach) (O.written out.old) (O.written out.new) }
+fn end_of<T: Tree, O: Sink, H: Hears>(
+    alloc: Global,
+    words: &[&str],
+    tree: &mut T,
+    out: &mut O,
+    observers: &mut H,
+) -> End
+    ensures answer { Answers (throws_by (H.says observers.old)) (T.files tree.old) (texts words.now)
+        (ending result.status result.word result.breach) (O.written out.old) (O.written out.new) (H.told observers.old) (H.told observers.new) }
+    ensures same { (first : H) → H.same first observers.old → H.same first observers.new }
     ensures read_fault { result.status ≡ Status.ReadFault
         → IsUnreadFile (T.faults tree.old) (T.faults tree.new) (T.blamed tree.new) (T.files tree.old) (texts words.now) result.word }
     ensures write_fault { result.status ≡ Status.WriteFault → Rose (O.faults out.old) (O.faults out.new) }
@@ -79,7 +102,7 @@ fn end_of<T: Tree, O: Sink>(alloc: Global, words: &[&str], tree: &mut T, out: &m
         return End::plain(Status::BadWords);
     };
     match read_files(alloc, tree, words, command.files()) {
-        Ok(files) => answer(alloc, &command, files.as_slice(), out),
+        Ok(files) => answer(alloc, &command, files.as_slice(), out, observers),
         Err(FileError::Failed { word }) => End::about(word, Status::ReadFault),
         Err(FileError::TooLong { word }) => {
             let what = Counted::FileBytes;
@@ -91,14 +114,23 @@ fn end_of<T: Tree, O: Sink>(alloc: Global, words: &[&str], tree: &mut T, out: &m
 }
 
 /// Does what a command asks for of the bytes of its files, and writes the output.
-fn answer<O: Sink>(alloc: Global, command: &Command, files: &[Blob], out: &mut O) -> End
+fn answer<O: Sink, H: Hears>(
+    alloc: Global,
+    command: &Command,
+    files: &[Blob],
+    out: &mut O,
+    observers: &mut H,
+) -> End
     requires { length files.now ≡ length (files_of (meant command.now)) }
-    ensures answers { AnswersVerdict (verdict_on (meant command.now) files.now) (ending result.status result.word result.breach)
-        (O.written out.old) (O.written out.new) }
+    ensures answers { AnswersVerdict (verdict_on (throws_by (H.says observers.old)) (meant command.now) files.now)
+        (ending result.status result.word result.breach) (O.written out.old) (O.written out.new) }
+    ensures heard { AreHeard result.status (executed_by (throws_by (H.says observers.old)) (meant command.now) files.now)
+        (H.told observers.old) (H.told observers.new) }
+    ensures same { (first : H) → H.same first observers.old → H.same first observers.new }
     ensures write_fault { result.status ≡ Status.WriteFault → Rose (O.faults out.old) (O.faults out.new) }
     ensures never_falls { O.faults out.old ≤ O.faults out.new }
 {
-    match work(alloc, command, files) {
+    match work(alloc, command, files, observers) {
         Ok(printed) => write_output(&printed, out),
         Err(error) => End::of(error),
     }

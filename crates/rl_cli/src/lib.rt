@@ -5,6 +5,7 @@
 mod call;
 mod end;
 mod file;
+mod observers;
 mod output;
 mod report;
 mod spelt;

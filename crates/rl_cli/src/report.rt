@@ -2,14 +2,14 @@
 ghost use Rattle.std.specs.Prelude.{◌≡◌, Some};
 ghost use Rattle.std.specs.Fmt.{DisplaysOnOk};
 ghost use Rattle.rl_cli.specs.Spelt.{spelt};
-ghost use Rattle.rl_cli.specs.Told.{breach_line, count_line, fault_text, field_line, had_line, input_line, limit_line, named_line, ownerless_line, place_text};
+ghost use Rattle.rl_cli.specs.Told.{breach_line, count_line, fault_text, field_line, had_line, input_line, limit_line, named_line, place_text};
 ghost use Rattle.rl_cli.specs.Told.{reason_text, rule_line, rule_text, unread_line, unwritten_line};
 
 use crate::spelt::Spelt;
 use crate::status::Status;
 use crate::words::word_at;
 use rl_base::Reason;
-use rl_defs::CatalogError;
+use rl_defs::{CatalogError, FieldKind};
 use rl_names::{Counted, Rule, Text};
 use std::fmt;
 
@@ -105,42 +105,23 @@ fn write_had<W: fmt::Write>(
     write_fault(f, fault, why)
 }
 
-/// Writes which field of no module is at fault.
-fn write_ownerless<W: fmt::Write>(
-    f: &mut fmt::Formatter<W>,
-    file: &str,
-    field: &str,
-    why: u32,
-) -> fmt::Result
-    ensures { DisplaysOnOk W.write_str_gives f.old result (Some (ownerless_line file.now field.now why)) f.new }
-{
-    let fault = "is unknown or has a bad value";
-    if field.is_empty() {
-        write_named(f, file, "the module or the field", field, fault, why)
-    } else {
-        write_named(f, file, "the field", field, fault, why)
-    }
-}
-
-/// Writes which field definitions do not have. The owner is empty outside modules, and the field where
-/// the module is no table.
+/// Writes which field definitions do not have.
 fn write_field<W: fmt::Write>(
     f: &mut fmt::Formatter<W>,
     file: &str,
+    kind: FieldKind,
     owner: &Text,
     field: &Text,
     why: u32,
 ) -> fmt::Result
-    ensures { DisplaysOnOk W.write_str_gives f.old result (Some (field_line file.now owner.now field.now why)) f.new }
+    ensures { DisplaysOnOk W.write_str_gives f.old result (Some (field_line file.now kind owner.now field.now why)) f.new }
 {
     let (owner, field) = (owner.as_str(), field.as_str());
-    if owner.is_empty() {
-        write_ownerless(f, file, field, why)
-    } else if field.is_empty() {
-        write_named(f, file, "module", owner, "is no table", why)
-    } else {
-        let fault = "is unknown or has a bad value";
-        write_had(f, file, owner, "has the field", field, fault, why)
+    let fault = "is unknown or has a bad value";
+    match kind {
+        FieldKind::OfFile => write_named(f, file, "the field", field, fault, why),
+        FieldKind::IsModule => write_named(f, file, "module", owner, "is no table", why),
+        FieldKind::OfModule => write_had(f, file, owner, "has the field", field, fault, why),
     }
 }
 
@@ -155,9 +136,10 @@ fn write_breach<W: fmt::Write>(
 {
     match breach {
         CatalogError::UnknownField {
+            kind,
             module: owner,
             field,
-        } => write_field(f, file, owner, field, why),
+        } => write_field(f, file, *kind, owner, field, why),
         CatalogError::BadName { text } => {
             write_named(f, file, "the name", text.as_str(), "breaks its rule", why)
         }

@@ -1,6 +1,7 @@
 //! What no clause says: printed bytes, statuses with ample memory, and an outside that fails.
 
 mod limits;
+mod observers;
 mod outside;
 mod queries;
 mod scripts;

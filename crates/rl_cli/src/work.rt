@@ -1,20 +1,25 @@
 //! What a command makes of the bytes of its files.
-ghost use Rattle.std.specs.Prelude.{◌≡◌, ◌<◌, length, option_map};
+ghost use Rattle.std.specs.Prelude.{◌≡◌, ◌<◌, [], length, option_map};
 ghost use Rattle.rl_names.specs.Meant.{Gives};
 ghost use Rattle.rl_script_spec.specs.Script.{verdict_of};
-ghost use Rattle.rl_drive.specs.Drives.{never};
+ghost use Rattle.rl_view.specs.Heard.{throws_by};
+ghost use Rattle.rl_drive.specs.Hearing.{executions_in};
 ghost use Rattle.rl_defs.specs.Breach.{reading};
 ghost use Rattle.rl_defs.specs.Refusal.{refusal_told as breach_told};
+ghost use Rattle.rl_build.specs.Sight.{sight};
+ghost use Rattle.rl_loadphp.specs.Answer.{answer_of};
 ghost use Rattle.rl_loadphp.specs.Refusal.{refusal_told as query_told};
 ghost use Rattle.rl_cli.specs.Meant.{meant};
-ghost use Rattle.rl_cli.specs.Verdict.{fault_told, file_at, of_breach as fault_of_breach, of_query as fault_of_query, of_reading, of_script, verdict_on};
+ghost use Rattle.rl_cli.specs.Verdict.{IsHeard, executed_by, fault_told, file_at, of_breach as fault_of_breach, of_query as fault_of_query, of_reading, of_script, verdict_on};
 ghost use Rattle.rl_cli.specs.Words.{files_of};
 
 use crate::words::Command;
+use rl_base::Hears;
 use rl_defs::{Catalog, CatalogError};
 use rl_drive::{DriveError, drive};
-use rl_loadphp::{AnswerError, answer};
+use rl_loadphp::{Answer, AnswerError, answer};
 use rl_names::{Blob, Counted};
+use rl_pages::{Pages, Viewer};
 use std::alloc::Global;
 
 /// What a command prints.
@@ -46,12 +51,20 @@ pub enum WorkError {
 }
 
 /// What a command makes of the bytes of its files, one for each of its places.
-pub fn work(alloc: Global, command: &Command, files: &[Blob]) -> Result<Printed, WorkError>
+pub fn work<H: Hears>(
+    alloc: Global,
+    command: &Command,
+    files: &[Blob],
+    observers: &mut H,
+) -> Result<Printed, WorkError>
     requires { length files.now ≡ length (files_of (meant command.now)) }
-    ensures { Gives fault_told result (verdict_on (meant command.now) files.now) }
+    ensures gives { Gives fault_told result (verdict_on (throws_by (H.says observers.old)) (meant command.now) files.now) }
+    ensures heard { IsHeard result (executed_by (throws_by (H.says observers.old)) (meant command.now) files.now)
+        (H.told observers.old) (H.told observers.new) }
+    ensures same { (first : H) → H.same first observers.old → H.same first observers.new }
 {
     match command {
-        Command::Drive => play_script(alloc, bytes_of(files, 0), 1),
+        Command::Drive => play_script(alloc, bytes_of(files, 0), 1, observers),
         Command::Load { query } => load(alloc, bytes_of(files, 0), query),
     }
 }
@@ -65,10 +78,17 @@ fn bytes_of(files: &[Blob], number: usize) -> &[u8]
 }
 
 /// Plays a script, which the word of this place names.
-fn play_script(alloc: Global, bytes: &[u8], word: u32) -> Result<Printed, WorkError>
-    ensures { Gives fault_told result (of_script word (verdict_of never bytes.now)) }
+fn play_script<H: Hears>(
+    alloc: Global,
+    bytes: &[u8],
+    word: u32,
+    observers: &mut H,
+) -> Result<Printed, WorkError>
+    ensures gives { Gives fault_told result (of_script word (verdict_of (throws_by (H.says observers.old)) bytes.now)) }
+    ensures heard { IsHeard result (executions_in (throws_by (H.says observers.old)) bytes.now) (H.told observers.old) (H.told observers.new) }
+    ensures same { (first : H) → H.same first observers.old → H.same first observers.new }
 {
-    match drive(alloc, bytes) {
+    match drive(alloc, bytes, observers) {
         Ok(driven) => Ok(Printed {
             text: Blob::from_vec(driven.text),
             ready: driven.ready,
@@ -119,6 +139,14 @@ fn of_query(word: u32, error: AnswerError) -> WorkError
     WorkError::Exceeds { word, what, count }
 }
 
+/// The answer to a query of a viewer who is nobody, by a wiki without pages.
+fn nobodys_answer(alloc: Global, catalog: &Catalog, query: &str) -> Result<Answer, AnswerError>
+    ensures { Gives query_told result (answer_of (sight catalog.now [] Viewer.Anon) query.now) }
+{
+    let pages = Pages::empty(alloc)?;
+    answer(alloc, catalog, &pages, &Viewer::Anon, query.as_bytes())
+}
+
 /// The body that answers a query, which is word 4, from definitions, which word 1 names.
 fn load(alloc: Global, definitions: &[u8], query: &str) -> Result<Printed, WorkError>
     ensures { Gives fault_told result (of_reading query.now (reading definitions.now)) }
@@ -127,7 +155,7 @@ fn load(alloc: Global, definitions: &[u8], query: &str) -> Result<Printed, WorkE
         Ok(catalog) => catalog,
         Err(breach) => return Err(of_breach(1, breach)),
     };
-    match answer(alloc, &catalog, query.as_bytes()) {
+    match nobodys_answer(alloc, &catalog, query) {
         Ok(answer) => Ok(Printed {
             text: Blob::from_vec(answer.body.into_string().into_bytes()),
             ready: true,

@@ -13,6 +13,7 @@ use Rattle.rl_view_spec.proofs.ChainsLemmas.{same, led_in_closure, reaches_from_
 use Rattle.rl_view_spec.proofs.PlacesLemmas.{alike}
 use Rattle.rl_view_spec.proofs.ResolveLemmas.{leads_on, closure_on, closure_itself, resolves_itself}
 use Rattle.rl_view_spec.proofs.StatesLemmas.{iff_same}
+use Rattle.rl_view_spec.proofs.VersionsLemmas.{filter_map_same}
 use Rattle.rl_view_spec.proofs.ToolsLemmas.{one_any, contains_head, contains_tail, contains_cases, contains_none, found_in, found_place}
 use Rattle.rl_compact.specs.Compact.{plain, barest, Brings, names_in, left, compact_row, compacted}
 use Rattle.rl_compact.specs.Laws.{ClosuresStay}
@@ -25,21 +26,17 @@ under rows features = record { rows = rows; features = features }
 abbrev pub small : List Row → List Text → Registered
 small rows features = record { rows = compacted rows; features = features }
 
-pub filter_same : {X Y : Type 0} (f g : X → Option Y) (xs : List X) → ((x : X) → f x ≡ g x) → filter_map f xs ≡ filter_map g xs
-filter_same f g [] e = refl
-filter_same f g (x ∷ xs) e = ap (λ o. cons_option o (filter_map f xs)) (e x) ∙ ap (cons_option (g x)) (filter_same f g xs e)
-
 pub name_plain : (rows : List Row) (features : List Text) (dep : Dep) → dep_name (under rows features) dep ≡ dep_name (plain rows) dep
 name_plain rows features (At k) = refl
 name_plain rows features (Named name) = refl
 
 names_plain : (rows : List Row) (features : List Text) (deps : List Dep) →
     filter_map (dep_name (under rows features)) deps ≡ filter_map (dep_name (plain rows)) deps
-names_plain rows features deps = filter_same (dep_name (under rows features)) (dep_name (plain rows)) deps (name_plain rows features)
+names_plain rows features deps = filter_map_same (dep_name (under rows features)) (dep_name (plain rows)) deps (name_plain rows features)
 
 pub names_small : (rows : List Row) (features : List Text) (deps : List Dep) →
     filter_map (dep_name (small rows features)) deps ≡ filter_map (dep_name (plain rows)) deps
-names_small rows features deps = filter_same (dep_name (small rows features)) (dep_name (plain rows)) deps
+names_small rows features deps = filter_map_same (dep_name (small rows features)) (dep_name (plain rows)) deps
     (λ dep. dep_named_same rows features dep ∙ name_plain rows features dep)
 
 pub feature_small : (rows : List Row) (features : List Text) (skip : Option Text) →

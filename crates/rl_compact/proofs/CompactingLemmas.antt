@@ -13,16 +13,15 @@ use Rattle.rl_view_spec.specs.Direct.{is_within}
 use Rattle.rl_view_spec.specs.Numbers.{needed}
 use Rattle.rl_view_spec.specs.Progress.{HasDistinctNames}
 use Rattle.rl_view_spec.proofs.PlacesLemmas.{name_there}
-use Rattle.rl_rows.specs.Edges.{HasDepsWithin}
 use Rattle.rl_rows.proofs.EdgesLemmas.{blank, kept_indexed, needed_within, row_there}
 use Rattle.std.proofs.lemmas.List.{get_or-map, get_or_default, take_more, length-map, length-drop}
 use Rattle.std.proofs.lemmas.List.Elements.{Contains-get_or}
 use Rattle.std.proofs.Math.Seq.{drop-cons}
 use Rattle.std.proofs.lemmas.Option.{slice_get-get_or}
-use Rattle.rl_compact.specs.Compact.{plain, barest, is_brought, compact_row}
+use Rattle.rl_compact.specs.Compact.{plain, is_brought, compact_row}
+use Rattle.rl_compact.specs.Known.{Known}
 use Rattle.rl_compact.specs.Laws.{lacks}
 use Rattle.rl_compact.specs.Unmarked.{IsLeft}
-use Rattle.rl_compact.specs.Unresolved.{MarkUnresolved}
 use Rattle.rl_compact.proofs.RefusedLemmas.{left_is_unmarked, marks_say_unresolved, lacks_at}
 
 pub skip_some : (rows : List Row) (row : Row) (skip : Text) → row.skip ≡ Some skip →
@@ -52,14 +51,6 @@ lacks_by_length rows edges at next row e low there is is' =
     let ns : next.items ≡ needed (plain rows) row = listed edges at next next.items there is refl ∙ ap (λ ls. next_in ls at) e
     ∙ get_or-map (needed (plain rows)) rows at row [] low ∙ ap (needed (plain rows)) (sym is') in
     ap (λ xs. not (nat_eq (length xs) (length row.deps))) ns
-
--- what is known of the rows when they are compacted
-pub record Known (rows : List Row) (edges bare : List (List ℕ)) (stays : List Bool) : Type 0 where
-  pub distinct : HasDistinctNames (plain rows)
-  pub within : HasDepsWithin (plain rows)
-  pub edges_are : edges ≡ map (needed (plain rows)) rows
-  pub bare_are : bare ≡ map (needed (barest rows)) rows
-  pub unresolved : MarkUnresolved edges (map (lacks rows) rows) stays
 
 says : (rows : List Row) (edges bare : List (List ℕ)) (stays : List Bool) (at : ℕ) → Known rows edges bare stays → at < length rows →
     marked stays at ≡ not (resolves (plain rows) (get_or rows at blank).name)
@@ -143,22 +134,6 @@ next_row rows rest rest' at row e is le =
     let cons : row ∷ rest' ≡ get_or rows at blank ∷ drop (suc at) rows = sym is ∙ e ∙ drop-cons rows at blank low in
     let one : suc at ≡ at + 1 = omega arith in
     (low, ap (λ (xs : List Row). get_or xs 0 row) cons, ap (drop 1) cons ∙ ap (λ (n : ℕ). drop n rows) one)
-
-pub known_of : (rows r2 r4 r5 r8 : List Row) (s7 skips : List Text) (es bs a10 : List (Vec ℕ Global)) (lacking l11 stays : List Bool) →
-    HasDistinctNames (plain rows) → HasDepsWithin (plain rows) → r2 ≡ rows → r4 ≡ rows → r5 ≡ rows → r8 ≡ rows
-    → skips ≡ filter_map (λ row. row.skip) r4 → s7 ≡ skips → edge_lists es ≡ map (needed (plain r2)) r2 →
-    edge_lists bs ≡ map (needed (record { rows = r5; features = s7 })) r5 → lacking ≡ map (lacks r8) r8
-    → a10 ≡ es → l11 ≡ lacking → MarkUnresolved (edge_lists a10) l11 stays → Known rows (edge_lists es) (edge_lists bs) stays
-known_of rows r2 r4 r5 r8 s7 skips es bs a10 lacking l11 stays distinct within e2 e4 e5 e8 es' e7 h k l e10 e11 m = record {
-  distinct = distinct;
-  within = within;
-  edges_are = subst (λ (r : List Row). edge_lists es ≡ map (needed (plain r)) r) e2 h;
-  bare_are = subst (λ (f : List Text). edge_lists bs ≡ map (needed (record { rows = rows; features = f })) rows)
-      (e7 ∙ es' ∙ ap (filter_map (λ row. row.skip)) e4)
-      (subst (λ (r : List Row). edge_lists bs ≡ map (needed (record { rows = r; features = s7 })) r) e5 k);
-  unresolved = subst (λ (ls : List Bool). MarkUnresolved (edge_lists es) ls stays) (e11 ∙ l ∙ ap (λ (r : List Row). map (lacks r) r) e8)
-      (subst (λ (a : List (Vec ℕ Global)). MarkUnresolved (edge_lists a) l11 stays) e10 m);
-}
 
 -- the mark that is read
 pub mark_read : (rows : List Row) (edges bare : List (List ℕ)) (stays : List Bool) (at : ℕ) (b : Bool) → Known rows edges bare stays →

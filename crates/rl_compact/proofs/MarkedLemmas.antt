@@ -1,8 +1,7 @@
 -- The marks say what is brought.
-use Rattle.std.proofs.Common.{◌≡◌, ℕ, ◌<◌, List, [], ◌∷◌, Bool, true, cond, length, map, Some, ap, sym, subst, ⊎_elim}
+use Rattle.std.proofs.Common.{◌≡◌, ℕ, ◌<◌, List, [], Bool, true, cond, length, map, Some, ap, sym, subst}
 use Rattle.std.specs.Prelude.{Contains, flat_map}
 use Rattle.std.specs.List.{list_any}
-use Rattle.std.proofs.lemmas.List.Elements.{Contains-append_cases}
 use Rattle.rl_names.specs.declared.row.Row.{Row}
 use Rattle.rl_graph.specs.Graph.{next_in, marked, Reaches, ReachedFrom}
 use Rattle.rl_view_spec.specs.Closure.{Text, row_of, deps_of, deps_of_row, Leads}
@@ -10,7 +9,7 @@ use Rattle.rl_view_spec.specs.Numbers.{needed}
 use Rattle.rl_view_spec.specs.Progress.{name_at}
 use Rattle.rl_view_spec.proofs.ChainsLemmas.{row_from_dep}
 use Rattle.rl_view_spec.proofs.StatesLemmas.{iff_same}
-use Rattle.rl_view_spec.proofs.ToolsLemmas.{any_one, one_any, contains_head, contains_tail, contains_none, contains_flat_map}
+use Rattle.rl_view_spec.proofs.ToolsLemmas.{any_one, one_any, contains_flat_map, flat_map_contains}
 use Rattle.rl_rows.specs.Edges.{HasEdges, IsIndexed}
 use Rattle.rl_rows.proofs.EdgesLemmas.{kept_indexed, needed_within, number_found, number_named, row_to, row_from}
 use Rattle.rl_rows.proofs.WalkingLemmas.{led_has_row, leads_from_walk, walk_from_leads}
@@ -18,14 +17,6 @@ use Rattle.rl_compact.specs.Compact.{plain, barest, Brings, brings, names_in}
 use Rattle.rl_compact.specs.Laws.{MarksSayBrought}
 use Rattle.rl_compact.proofs.ClosuresLemmas.{no_feature}
 use Rattle.rl_compact.proofs.LeftLemmas.{brings_chain, chain_brings}
-
--- what a list of lists has, one of them has
-pub flat_from : {X Y : Type 0} (f : X → List Y) (xs : List X) (y : Y) → Contains (flat_map f xs) y → (x : X) × Contains xs x × Contains (f x) y
-flat_from f [] y c = absurd (contains_none y c)
-flat_from f (x ∷ xs) y c = ⊎_elim
-    (λ d. (x, contains_head x xs, d))
-    (λ d. let m = flat_from f xs y d in (m.0, contains_tail x xs m.0 m.1, m.2))
-    (Contains-append_cases (f x) (flat_map f xs) y c)
 
 -- without features a row's dependencies are all of them
 pub all_names : (rows : List Row) (row : Row) → deps_of_row (plain rows) (Some row) ≡ names_in rows row
@@ -44,7 +35,7 @@ marks_say_brought rows edges row marks k distinct e m low = iff_same (marked mar
     to : marked marks k ≡ true → list_any (λ from. brings rows from (name_at (plain rows) k)) (names_in rows row) ≡ true
     to h =
         let r : ReachedFrom edges (flat_map (next_in edges) (needed (plain rows) row)) k = m.reached k h in
-        let s = flat_from (next_in edges) (needed (plain rows) row) r.start r.is_start in
+        let s = flat_map_contains (next_in edges) (needed (plain rows) row) r.start r.is_start in
         let low_from : s.0 < length rows = needed_within (plain rows) row s.0 s.1 in
         let low_start : r.start < length rows = subst (λ (n : ℕ). r.start < n) i.long (i.within s.0 r.start s.2) in
         let beside : Contains (names_in rows row) (name_at (plain rows) s.0) =

@@ -20,7 +20,8 @@ use Rattle.rl_view_spec.proofs.ToolsLemmas.{one_any, contains_head, contains_tai
 use Rattle.rl_compact.specs.Compact.{plain, barest, Brings, brings, names_in, is_brought, left, compact_row, compacted}
 use Rattle.rl_compact.specs.Laws.{EachIsNeeded, IsPlainRow, Loses, less, less_row}
 use Rattle.rl_compact.proofs.LeftLemmas.{chain_brings, from_filter, left_in, named_same, row_same}
-use Rattle.rl_compact.proofs.ClosuresLemmas.{small, filter_same, unskipped, IsDep, dep_join, small_join}
+use Rattle.rl_view_spec.proofs.VersionsLemmas.{filter_map_same}
+use Rattle.rl_compact.proofs.ClosuresLemmas.{small, unskipped, IsDep, dep_join, small_join}
 
 -- ---- one element less
 
@@ -179,7 +180,7 @@ left_apart rows row p = step (resolves (plain rows) row.name)
 
 smaller_names : (rows : List Row) (k j : ℕ) (row : Row) → slice_get rows k ≡ Some row → (deps : List Dep) →
     filter_map (dep_name (smaller rows k j row)) deps ≡ filter_map (dep_name (plain rows)) deps
-smaller_names rows k j row e deps = filter_same (dep_name (smaller rows k j row)) (dep_name (plain rows)) deps (smaller_name rows k j row e)
+smaller_names rows k j row e deps = filter_map_same (dep_name (smaller rows k j row)) (dep_name (plain rows)) deps (smaller_name rows k j row e)
 
 -- what the changed row depends on is another dependency that is left
 changed_dep : (rows : List Row) (k j : ℕ) (row : Row) (dep : Dep) (name y : Text) → Less rows k j row dep name →

@@ -16,6 +16,7 @@ use Rattle.rl_view_spec.specs.Direct.{is_within}
 use Rattle.rl_view_spec.specs.Numbers.{needed, number_of, number_of_dep}
 use Rattle.rl_view_spec.specs.Progress.{name_at, HasDistinctNames}
 use Rattle.rl_view_spec.proofs.ChainsLemmas.{row_from_dep}
+use Rattle.rl_view_spec.proofs.DepsLemmas.{contains_filter_map, filter_map_contains}
 use Rattle.rl_view_spec.proofs.PlacesLemmas as places
 use Rattle.rl_view_spec.proofs.RefusalsLemmas.{refused_unknown, refused_cycle}
 use Rattle.rl_view_spec.proofs.ResolveLemmas.{closure_on, resolves_itself}
@@ -77,28 +78,6 @@ named_dep rows (At k) h = let low : k < length rows = ltb-true k (length rows) h
     ((get_or rows k blank).name, ap (option_map (λ row. row.name)) (row_there rows k low))
 named_dep rows (Named name) h = (name, refl)
 
--- what has a value has it in the list of values
-value_in : {X Y : Type 0} (f : X → Option Y) (xs : List X) (x : X) (y : Y) → Contains xs x → f x ≡ Some y → Contains (filter_map f xs) y
-value_in f [] x y c e = absurd (contains_none x c)
-value_in {Y = Y} f (z ∷ xs) x y c e = ⊎_elim
-    (λ s. subst (λ (o : Option Y). Contains (cons_option o (filter_map f xs)) y) (sym (ap f s ∙ e)) (contains_head y (filter_map f xs)))
-    (λ t. more (f z) (value_in f xs x y t e))
-    (contains_cases z xs x c)
-  where
-    more : (o : Option Y) → Contains (filter_map f xs) y → Contains (cons_option o (filter_map f xs)) y
-    more None d = d
-    more (Some w) d = contains_tail w (filter_map f xs) y d
-
-value_of : {X Y : Type 0} (f : X → Option Y) (xs : List X) (y : Y) → Contains (filter_map f xs) y → (x : X) × Contains xs x × (f x ≡ Some y)
-value_of f [] y c = absurd (contains_none y c)
-value_of {X = X} {Y = Y} f (z ∷ xs) y c = step (f z) refl (λ d. value_of f xs y d) c
-  where
-    step : (o : Option Y) → f z ≡ o → (Contains (filter_map f xs) y → (x : X) × Contains xs x × (f x ≡ Some y)) →
-        Contains (cons_option o (filter_map f xs)) y → (x : X) × Contains (z ∷ xs) x × (f x ≡ Some y)
-    step None e rest d = let m = rest d in (m.0, contains_tail z xs m.0 m.1, m.2)
-    step (Some w) e rest d = ⊎_elim (λ s. (z, contains_head z xs, e ∙ ap Some s)) (λ t. let m = rest t in (m.0, contains_tail z xs m.0 m.1, m.2))
-        (contains_cases w (filter_map f xs) y d)
-
 no_number : (rows : List Row) (name : Text) → number_of (plain rows) name ≡ None → has_row (plain rows) name ≡ true → ⊥
 no_number rows name e h = let n = number_found (plain rows) name h in let g : None ≡ Some n.0 = sym e ∙ n.1 in cc
 
@@ -122,13 +101,13 @@ lacks_name rows row within h =
     let m = lacking (number_of_dep (plain rows)) row.deps (omega (arith, ne, ap length (all_needed rows row), filter_le (number_of_dep (plain rows)) row.deps))
     in
     let d = named_dep rows m.0 (all_each (is_within (plain rows)) row.deps m.0 within m.1) in
-    (d.0, value_in (dep_name (plain rows)) row.deps m.0 d.0 m.1 d.1, sym (ap (option_and_then (number_of (plain rows))) d.1) ∙ m.2)
+    (d.0, contains_filter_map (dep_name (plain rows)) row.deps m.0 d.0 m.1 d.1, sym (ap (option_and_then (number_of (plain rows))) d.1) ∙ m.2)
 
 -- and one that depends on such a name lacks something
 name_lacks : (rows : List Row) (row : Row) (name : Text) → Contains (names_in rows row) name → has_row (plain rows) name ≡ false →
     lacks rows row ≡ true
 name_lacks rows row name c h =
-    let m = value_of (dep_name (plain rows)) row.deps name c in
+    let m = filter_map_contains (dep_name (plain rows)) row.deps name c in
     let none : number_of_dep (plain rows) m.0 ≡ None = ap (option_and_then (number_of (plain rows))) m.2 ∙ number_none rows name h in
     let less : length (needed (plain rows) row) < length row.deps =
     omega (arith, one_less (number_of_dep (plain rows)) row.deps m.0 m.1 none, ap length (all_needed rows row)) in

@@ -6,6 +6,7 @@ ghost use Rattle.rl_view_spec.specs.Numbers.{needed};
 ghost use Rattle.rl_rows.specs.Index.{AreDistinct};
 ghost use Rattle.rl_rows.specs.Edges.{HasDepsWithin};
 ghost use Rattle.rl_compact.specs.Compact.{plain, compacted};
+ghost use Rattle.rl_compact.specs.Known.{Known};
 ghost use Rattle.rl_compact.specs.Laws.{lacks};
 ghost use Rattle.rl_compact.specs.Unmarked.{IsLeft};
 
@@ -59,6 +60,33 @@ fn compact_one(alloc: Global, row: Row, numbers: &[u32], bare: &[Vec<u32>]) -> R
     })
 }
 
+/// What is looked up of rows before they are compacted.
+#[derive(Drop)]
+struct Looked {
+    /// The numbers that each row depends on, without features and under every one.
+    edges: Vec<Vec<u32>>,
+    bare: Vec<Vec<u32>>,
+
+    /// Which rows stay as they are.
+    stays: Vec<bool>,
+}
+
+/// Looks up what each row depends on, and which rows stay.
+fn look_up(alloc: Global, rows: &[Row]) -> Result<Looked, NoMemory>
+    requires few { length rows.now ≤ MAX_ROWS }
+    requires distinct { AreDistinct rows.now }
+    requires within { HasDepsWithin (plain rows.now) }
+    ensures { IfOk result (λ looked. Known rows.now (edge_lists looked.edges.items) (edge_lists looked.bare.items) looked.stays.items) }
+{
+    let order = index_of(alloc, rows)?;
+    let edges = all_edges(alloc, rows, order.as_slice(), &[])?;
+    let skips = skips_of(alloc, rows)?;
+    let bare = all_edges(alloc, rows, order.as_slice(), skips.as_slice())?;
+    let lacking = lacks_of(alloc, rows, edges.as_slice())?;
+    let stays = mark_unresolved(alloc, edges.as_slice(), lacking.as_slice())?;
+    Ok(Looked { edges, bare, stays })
+}
+
 /// Leaves each dependency out of a row that another dependency of that row brings.
 pub fn compact(alloc: Global, rows: Vec<Row>) -> Result<Vec<Row>, NoMemory>
     requires few { length rows.items ≤ MAX_ROWS }
@@ -66,19 +94,19 @@ pub fn compact(alloc: Global, rows: Vec<Row>) -> Result<Vec<Row>, NoMemory>
     requires within { HasDepsWithin (plain rows.items) }
     ensures { IfOk result (λ left. left.items ≡ compacted rows.items) }
 {
-    let order = index_of(alloc, rows.as_slice())?;
-    let edges = all_edges(alloc, rows.as_slice(), order.as_slice(), &[])?;
-    let skips = skips_of(alloc, rows.as_slice())?;
-    let bare = all_edges(alloc, rows.as_slice(), order.as_slice(), skips.as_slice())?;
-    let lacking = lacks_of(alloc, rows.as_slice(), edges.as_slice())?;
-    let stays = mark_unresolved(alloc, edges.as_slice(), lacking.as_slice())?;
+    let looked = look_up(alloc, rows.as_slice())?;
     let mut left = Vec::with_capacity(alloc, rows.len())?;
     let mut at = 0usize;
     for row in rows {
-        if stays[at] {
+        if looked.stays[at] {
             left.push(row)?;
         } else {
-            left.push(compact_one(alloc, row, edges[at].as_slice(), bare.as_slice())?)?;
+            left.push(compact_one(
+                alloc,
+                row,
+                looked.edges[at].as_slice(),
+                looked.bare.as_slice(),
+            )?)?;
         }
         at += 1;
     }

@@ -4,6 +4,7 @@ use Rattle.std.proofs.Common.{arith}
 use Rattle.std.specs.Prelude.{◌&&◌, ◌||◌, not, nat_le, if◌then◌else◌, is_some, bytes_eq, codes}
 use Rattle.std.specs.List.{AllByRecursion, list_all, filter_map, cons_option, slice_get}
 use Rattle.std.specs.Str.{is_utf8}
+use Rattle.std.proofs.lemmas.Bool.{and_from, and_parts, leb-true}
 use Rattle.std.proofs.lemmas.Bool.Decides.{nat_tests}
 use Rattle.std.proofs.lemmas.Slice.Eq.{bytes_eq-Decides}
 use Rattle.rl_names.specs.Name.{is_name}
@@ -21,10 +22,6 @@ use Rattle.rl_defs.specs.Catalogue.{IsModule, text_among}
 use Rattle.rl_defs.specs.Draft.{has_names, may_skip, module_of}
 use Rattle.rl_defs.specs.Words.{is_definable, is_built_in, is_gadget}
 
-passes_second : (a b : Bool) → a && b ≡ true → b ≡ true
-passes_second true b both = both
-passes_second false b both = cc
-
 -- neither of two breaches, where there is no first
 no_first : (a b : Option Refusal) → or_else a b ≡ None → (a ≡ None) × (b ≡ None)
 no_first None b none = (refl, none)
@@ -34,21 +31,14 @@ kept : (is_kept : Bool) (breach : Refusal) → unless is_kept breach ≡ None �
 kept true breach none = refl
 kept false breach none = cc
 
--- the first of two tests that both pass
-passes_first : (a b : Bool) → a && b ≡ true → a ≡ true
-passes_first true b both = refl
-passes_first false b both = both
-
-passes_both : (a b : Bool) → a ≡ true → b ≡ true → a && b ≡ true
-passes_both a b first second = rw (first, second)
-
 dependencies_are_names : (d : Draft) (owner : List ℕ) (names : List (List ℕ)) → bad_dependency_among d owner names ≡ None →
     list_all is_name names ≡ true
 dependencies_are_names d owner [] none = refl
 dependencies_are_names d owner (name ∷ names) none =
     let parts = no_first (unless (is_dependency d name) (BadDependency owner name)) (bad_dependency_among d owner names) none in
-    passes_both (is_name name) (list_all is_name names) (passes_first (is_name name) (is_defined d name || is_built_in name || is_gadget name)
-    (kept (is_dependency d name) (BadDependency owner name) parts.0)) (dependencies_are_names d owner names parts.1)
+    let name_and_more = and_parts (is_name name) (is_defined d name || is_built_in name || is_gadget name)
+    (kept (is_dependency d name) (BadDependency owner name) parts.0) in
+    and_from (is_name name) (list_all is_name names) name_and_more.0 (dependencies_are_names d owner names parts.1)
 
 modules_have_names : (d : Draft) (ms : List ModuleDraft) → bad_module_name ms ≡ None → first_of (bad_dependency_of d) ms ≡ None →
     list_all has_names ms ≡ true
@@ -56,9 +46,9 @@ modules_have_names d [] names dependencies = refl
 modules_have_names d (m ∷ ms) names dependencies =
     let of_names = no_first (unless (is_definable m.name) (BadName m.name)) (bad_module_name ms) names in
     let of_dependencies = no_first (bad_dependency_of d m) (first_of (bad_dependency_of d) ms) dependencies in
-    let name = passes_first (is_name m.name) (not (bytes_eq m.name (codes "startup") || is_built_in m.name || is_gadget m.name))
+    let name_and_more = and_parts (is_name m.name) (not (bytes_eq m.name (codes "startup") || is_built_in m.name || is_gadget m.name))
     (kept (is_definable m.name) (BadName m.name) of_names.0) in
-    passes_both (has_names m) (list_all has_names ms) (passes_both (is_name m.name) (list_all is_name m.dependencies) name
+    and_from (has_names m) (list_all has_names ms) (and_from (is_name m.name) (list_all is_name m.dependencies) name_and_more.0
     (dependencies_are_names d m.name m.dependencies of_dependencies.0)) (modules_have_names d ms of_names.1 of_dependencies.1)
 
 pub settled_names : (d : Draft) → breach_of d ≡ None → list_all has_names d.modules ≡ true
@@ -85,11 +75,8 @@ no_file_missing : (d : Draft) (owner : List ℕ) (files : List (List ℕ)) → n
 no_file_missing d owner [] none = refl
 no_file_missing d owner (file ∷ files) none =
     let parts = no_first (unless (is_some (text_of d file)) (NoFile owner file)) (no_file_among d owner files) none in
-    passes_both (is_some (text_of d file)) (list_all (λ file. is_some (text_among d.files file)) files)
+    and_from (is_some (text_of d file)) (list_all (λ file. is_some (text_among d.files file)) files)
     (kept (is_some (text_of d file)) (NoFile owner file) parts.0) (no_file_missing d owner files parts.1)
-
-few : (n most : ℕ) → nat_le n most ≡ true → n ≤ most
-few n most h = grind (arith, nat_tests)
 
 each_lawful : (d : Draft) (ms : List ModuleDraft) → bad_module_name ms ≡ None → too_many_dependencies ms ≡ None → first_of (no_file_of d) ms ≡ None
     → bad_source_among ms ≡ None → list_all may_skip ms ≡ true → AllByRecursion (IsModule d.files) (map module_of ms)
@@ -102,12 +89,12 @@ each_lawful d (m ∷ ms) names counts files sources skips =
     let of_sources = no_first (unless (bytes_eq m.source (codes "local")) (BadSource m.name)) (bad_source_among ms) sources in (
       record {
         name = kept (is_definable m.name) (BadName m.name) of_names.0;
-        few_dependencies = few (length m.dependencies) (limit_of Dependencies) (kept few_here (TooMany Dependencies (length m.dependencies)) of_counts.0);
+        few_dependencies = leb-true (length m.dependencies) (limit_of Dependencies) (kept few_here (TooMany Dependencies (length m.dependencies)) of_counts.0);
         source = (bytes_eq-Decides m.source (codes "local")).0 (kept (bytes_eq m.source (codes "local")) (BadSource m.name) of_sources.0);
-        feature = passes_first (may_skip m) (list_all may_skip ms) skips;
+        feature = (and_parts (may_skip m) (list_all may_skip ms) skips).0;
         listed = no_file_missing d m.name m.scripts of_files.0;
       },
-      each_lawful d ms of_names.1 of_counts.1 of_files.1 of_sources.1 (passes_second (may_skip m) (list_all may_skip ms) skips),
+      each_lawful d ms of_names.1 of_counts.1 of_files.1 of_sources.1 (and_parts (may_skip m) (list_all may_skip ms) skips).1,
     )
 
 pub settled_lawful : (d : Draft) → breach_of d ≡ None → list_all may_skip d.modules ≡ true →
@@ -138,11 +125,11 @@ same_names (m ∷ ms) = ap (λ names. m.name ∷ names) (same_names ms)
 -- what is kept of an admin is a user's name
 spelt_is_user_name : (is_kept : Bool) (name : List ℕ) (names : List (List ℕ)) → (is_kept ≡ true → is_user_name name ≡ true) →
     list_all is_user_name names ≡ true → list_all is_user_name (cons_option (if is_kept then Some name else None) names) ≡ true
-spelt_is_user_name true name names is rest = passes_both (is_user_name name) (list_all is_user_name names) (is refl) rest
+spelt_is_user_name true name names is rest = and_from (is_user_name name) (list_all is_user_name names) (is refl) rest
 spelt_is_user_name false name names is rest = rest
 
 pub are_user_names : (texts : List (List ℕ)) → list_all is_user_name (filter_map user_name_of texts) ≡ true
 are_user_names [] = refl
 are_user_names (text ∷ texts) =
     spelt_is_user_name (is_utf8 text && is_user_name (spaced text)) (spaced text) (filter_map user_name_of texts)
-    (passes_second (is_utf8 text) (is_user_name (spaced text))) (are_user_names texts)
+    (λ both. (and_parts (is_utf8 text) (is_user_name (spaced text)) both).1) (are_user_names texts)

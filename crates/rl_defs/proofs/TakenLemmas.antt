@@ -7,21 +7,21 @@ use Rattle.std.specs.List.{AllByRecursion}
 use Rattle.std.specs.List.Sorted.{IsStrictlySortedBy}
 use Rattle.std.specs.Map.{keys_of}
 use Rattle.std.specs.String.{string_cmp}
-use Rattle.std.proofs.lemmas.Bool.{cases_Bool, false≢true}
-use Rattle.std.proofs.lemmas.Bool.Decides.{nat_tests}
+use Rattle.std.proofs.lemmas.Bool.{and_parts, cases_Bool, false≢true, leb-true}
 use Rattle.std.proofs.lemmas.Slice.Eq.{bytes_eq-Decides}
-use Rattle.toml.specs.Data.{Data, integer, table, Members, no_members, member, get_member}
+use Rattle.toml.specs.Data.{Data, integer, table, Members, member, get_member}
 use Rattle.toml.specs.View.{view, members_view}
 use Rattle.toml.specs.declared.value.Value.{Value, Table}
 use Rattle.toml.proofs.Views.{Entry, view-Table}
 use Rattle.rl_defs.specs.declared.draft.Draft.{Draft}
 use Rattle.rl_defs.specs.declared.draft.ModuleDraft.{ModuleDraft}
 use Rattle.rl_defs.specs.declared.error.CatalogError.{CatalogError}
+use Rattle.rl_defs.specs.declared.error.FieldKind.TheVariants.{OfFile, OfModule}
 use Rattle.rl_defs.specs.Refusal.{Refusal, UnknownField, refusal_told}
 use Rattle.rl_defs.specs.Reading.{inside, number_of}
 use Rattle.rl_defs.specs.Fields.{Place, InFiles, InWiki, InModule, Field, is_known, is_known_at, is_module_field, is_wiki_field, is_table_field}
 use Rattle.rl_defs.specs.Fields.{fields, fields_at, top_fields, modules_fields, module_fields}
-use Rattle.rl_defs.specs.Breach.{or_else, first_of, unless, unknown_at, unknown_among, unknown_field}
+use Rattle.rl_defs.specs.Breach.{or_else, unless, unknown_at, unknown_among}
 use Rattle.rl_defs.specs.Draft.{named_alone, module_draft, modules_of, module_with, wiki_with, draft_with, empty_draft, IsDraft}
 use Rattle.rl_defs.specs.Taken.{module_taken, wiki_taken, table_taken}
 
@@ -68,67 +68,49 @@ is_some_none h = cc
 at_key : (P : List ℕ → Type 0) (key text : List ℕ) → bytes_eq key text ≡ true → P text → P key
 at_key P key text is p = subst P (sym ((bytes_eq-Decides key text).0 is)) p
 
+-- a key is one of these, or none of them
+by_key : (P : List ℕ → Type 0) (key : List ℕ) (texts : List (List ℕ)) → AllByRecursion P texts
+    → (AllByRecursion (λ text. bytes_eq key text ≡ false) texts → P key) → P key
+by_key P key [] each other = other tt
+by_key P key (text ∷ texts) each other = elim (cases_Bool (bytes_eq key text)) [
+  | inl is ↦ at_key P key text is each.0
+  | inr apart ↦ by_key P key texts each.1 (λ none. other (apart, none))
+]
+
+abbrev module_keys : List (List ℕ)
+module_keys = codes "scripts" ∷ codes "dependencies" ∷ codes "group" ∷ codes "source" ∷ codes "skip" ∷ []
+
+abbrev wiki_keys : List (List ℕ)
+wiki_keys = codes "admins" ∷ codes "skins" ∷ codes "limit" ∷ codes "storeVersion" ∷ []
+
+abbrev table_keys : List (List ℕ)
+table_keys = codes "files" ∷ codes "modules" ∷ codes "wiki" ∷ []
+
 -- ---- one field of a module, of the table `wiki`, of the file: what is said at its key counts, since it is said once
 
 pub module_step : (m : ModuleDraft) (key : List ℕ) (d : Data) (ms : Members) → get_member key ms ≡ None → is_module_field key d ≡ true
     → module_with (module_taken m key d) ms ≡ module_with m (member key d ms)
 module_step m key d ms once known =
     let Counts : List ℕ → Type 0 = λ k. get_member k ms ≡ None → module_with (module_taken m k d) ms ≡ module_with m (member k d ms) in
-    elim (cases_Bool (bytes_eq key (codes "scripts"))) [
-      | inl is ↦ at_key Counts key (codes "scripts") is (λ e. rw e refl) once
-      | inr no_1 ↦ elim (cases_Bool (bytes_eq key (codes "dependencies"))) [
-        | inl is ↦ at_key Counts key (codes "dependencies") is (λ e. rw e refl) once
-        | inr no_2 ↦ elim (cases_Bool (bytes_eq key (codes "group"))) [
-          | inl is ↦ at_key Counts key (codes "group") is (λ e. rw e refl) once
-          | inr no_3 ↦ elim (cases_Bool (bytes_eq key (codes "source"))) [
-            | inl is ↦ at_key Counts key (codes "source") is (λ e. rw e refl) once
-            | inr no_4 ↦ elim (cases_Bool (bytes_eq key (codes "skip"))) [
-              | inl is ↦ at_key Counts key (codes "skip") is (λ e. rw e refl) once
-              | inr no_5 ↦
-                  let none : is_module_field key d ≡ false = rw (no_1, no_2, no_3, no_4, no_5) refl in
-                  absurd (false≢true (sym none ∙ known))
-            ]
-          ]
-        ]
-      ]
-    ]
+    by_key Counts key module_keys ((λ e. rw e refl), ((λ e. rw e refl), ((λ e. rw e refl), ((λ e. rw e refl), ((λ e. rw e refl), tt))))) (λ apart.
+    let none : is_module_field key d ≡ false = rw (apart.0, apart.1.0, apart.1.1.0, apart.1.1.1.0, apart.1.1.1.1.0) refl in
+    absurd (false≢true (sym none ∙ known))) once
 
 pub wiki_step : (w : Draft) (key : List ℕ) (d : Data) (ms : Members) → get_member key ms ≡ None → is_wiki_field key d ≡ true
     → wiki_with (wiki_taken w key d) ms ≡ wiki_with w (member key d ms)
 wiki_step w key d ms once known =
     let Counts : List ℕ → Type 0 = λ k. get_member k ms ≡ None → wiki_with (wiki_taken w k d) ms ≡ wiki_with w (member k d ms) in
-    elim (cases_Bool (bytes_eq key (codes "admins"))) [
-      | inl is ↦ at_key Counts key (codes "admins") is (λ e. rw e refl) once
-      | inr no_1 ↦ elim (cases_Bool (bytes_eq key (codes "skins"))) [
-        | inl is ↦ at_key Counts key (codes "skins") is (λ e. rw e refl) once
-        | inr no_2 ↦ elim (cases_Bool (bytes_eq key (codes "limit"))) [
-          | inl is ↦ at_key Counts key (codes "limit") is (λ e. rw e refl) once
-          | inr no_3 ↦ elim (cases_Bool (bytes_eq key (codes "storeVersion"))) [
-            | inl is ↦ at_key Counts key (codes "storeVersion") is (λ e. rw e refl) once
-            | inr no_4 ↦
-                let none : is_wiki_field key d ≡ false = rw (no_1, no_2, no_3, no_4) refl in
-                absurd (false≢true (sym none ∙ known))
-          ]
-        ]
-      ]
-    ]
+    by_key Counts key wiki_keys ((λ e. rw e refl), ((λ e. rw e refl), ((λ e. rw e refl), ((λ e. rw e refl), tt)))) (λ apart.
+    let none : is_wiki_field key d ≡ false = rw (apart.0, apart.1.0, apart.1.1.0, apart.1.1.1.0) refl in
+    absurd (false≢true (sym none ∙ known))) once
 
 table_step : (w : Draft) (key : List ℕ) (t ms : Members) → get_member key ms ≡ None → is_table_field key (table t) ≡ true
     → draft_with (table_taken w key t) ms ≡ draft_with w (member key (table t) ms)
 table_step w key t ms once known =
     let Counts : List ℕ → Type 0 = λ k. get_member k ms ≡ None → draft_with (table_taken w k t) ms ≡ draft_with w (member k (table t) ms) in
-    elim (cases_Bool (bytes_eq key (codes "files"))) [
-      | inl is ↦ at_key Counts key (codes "files") is (λ e. rw e refl) once
-      | inr no_1 ↦ elim (cases_Bool (bytes_eq key (codes "modules"))) [
-        | inl is ↦ at_key Counts key (codes "modules") is (λ e. rw e refl) once
-        | inr no_2 ↦ elim (cases_Bool (bytes_eq key (codes "wiki"))) [
-          | inl is ↦ at_key Counts key (codes "wiki") is (λ e. rw e refl) once
-          | inr no_3 ↦
-              let none : is_table_field key (table t) ≡ false = rw (no_1, no_2, no_3) refl in
-              absurd (false≢true (sym none ∙ known))
-        ]
-      ]
-    ]
+    by_key Counts key table_keys ((λ e. rw e refl), ((λ e. rw e refl), ((λ e. rw e refl), tt))) (λ apart.
+    let none : is_table_field key (table t) ≡ false = rw (apart.0, apart.1.0, apart.1.1.0) refl in
+    absurd (false≢true (sym none ∙ known))) once
 
 pub draft_step : (w : Draft) (key : List ℕ) (d : Data) (ms : Members) → get_member key ms ≡ None → is_table_field key d ≡ true
     → draft_with (table_taken w key (inside d)) ms ≡ draft_with w (member key d ms)
@@ -141,18 +123,11 @@ first_known key d none =
     elim (cases_Bool (is_table_field key d)) [
       | inl known ↦ known
       | inr other ↦
-          let some : unknown_among (top_fields (key, d)) ≡ Some (UnknownField [] key) = rw other refl in
+          let some : unknown_among (top_fields (key, d)) ≡ Some (UnknownField OfFile [] key) = rw other refl in
           absurd (is_some_none (sym some ∙ none))
     ]
 
 -- ---- numbers in their range
-
-both : (a b : Bool) → a && b ≡ true → (a ≡ true) × (b ≡ true)
-both true b h = (refl, h)
-both false b h = absurd (false≢true h)
-
-at_most : (n most : ℕ) → nat_le n most ≡ true → n ≤ most
-at_most n most h = grind (arith, nat_tests)
 
 abbrev InRange : ℕ → ℕ → ℕ → Type 0
 InRange least most n = (least ≤ n) × (n ≤ most)
@@ -165,8 +140,8 @@ chosen least most n absent false found rest = rest
 number_in_range : (least most : ℕ) (d : Data) (absent : ℕ) → InRange least most absent → InRange least most (unwrap_or (number_of least most d) absent)
 number_in_range least most (integer (pos n)) absent rest =
     chosen least most n absent (nat_le least n && nat_le n most) (λ h.
-    let parts = both (nat_le least n) (nat_le n most) h in
-    (at_most least n parts.0, at_most n most parts.1)) rest
+    let parts = and_parts (nat_le least n) (nat_le n most) h in
+    (leb-true least n parts.0, leb-true n most parts.1)) rest
 number_in_range least most d absent rest = rest
 
 read_in_range : (least most : ℕ) (o : Option Data) (absent : ℕ) → InRange least most absent
@@ -324,22 +299,8 @@ table_in v t is = ap view is ∙ view-Table t
 
 taken_name : (m : ModuleDraft) (key : List ℕ) (d : Data) → (module_taken m key d).name ≡ m.name
 taken_name m key d =
-    elim (cases_Bool (bytes_eq key (codes "scripts"))) [
-      | inl is ↦ rw is refl
-      | inr no_1 ↦ elim (cases_Bool (bytes_eq key (codes "dependencies"))) [
-        | inl is ↦ rw (no_1, is) refl
-        | inr no_2 ↦ elim (cases_Bool (bytes_eq key (codes "group"))) [
-          | inl is ↦ rw (no_1, no_2, is) refl
-          | inr no_3 ↦ elim (cases_Bool (bytes_eq key (codes "source"))) [
-            | inl is ↦ rw (no_1, no_2, no_3, is) refl
-            | inr no_4 ↦ elim (cases_Bool (bytes_eq key (codes "skip"))) [
-              | inl is ↦ rw (no_1, no_2, no_3, no_4, is) refl
-              | inr no_5 ↦ rw (no_1, no_2, no_3, no_4, no_5) refl
-            ]
-          ]
-        ]
-      ]
-    ]
+    by_key (λ (k : List ℕ). (module_taken m k d).name ≡ m.name) key module_keys (refl, (refl, (refl, (refl, (refl, tt)))))
+    (λ apart. rw (apart.0, apart.1.0, apart.1.1.0, apart.1.1.1.0, apart.1.1.1.1.0) refl)
 
 -- the loop of a module began with nothing but its name, and goes over its table
 begun : (name : List ℕ) (start m : ModuleDraft) (whole entries es : List Entry) → start ≡ named_alone name → whole ≡ entries
@@ -358,13 +319,13 @@ module_all name v t start m whole es is_v is_start is_whole turn is_es =
 pub module_stopped : (name owner key : List ℕ) (v : Value) (t : Map) (start m n : ModuleDraft) (whole es rest : List Entry) (e : Entry) (known : Bool)
     (error : CatalogError) → v ≡ Table t → start ≡ named_alone name → whole ≡ t.entries → IsModuleTurn start whole m es → es ≡ e ∷ rest
     → known ≡ is_module_field (string_bytes e.0) (view e.1) → known ≡ false → n ≡ module_taken m (string_bytes e.0) (view e.1)
-    → refusal_told error ≡ Some (UnknownField owner key) → owner ≡ n.name → key ≡ string_bytes e.0
+    → refusal_told error ≡ Some (UnknownField OfModule owner key) → owner ≡ n.name → key ≡ string_bytes e.0
     → (refusal : Refusal) → refusal_told error ≡ Some refusal → unknown_among (module_fields (name, view v)) ≡ Some refusal
 module_stopped name owner key v t start m n whole es rest e known error is_v is_start is_whole turn is_es known_is was_not is_n is_told is_owner is_key refusal told =
     let at = begun name start m whole t.entries es is_start is_whole turn in
     let named : owner ≡ name = is_owner ∙ ap (λ (x : ModuleDraft). x.name) is_n ∙ taken_name m (string_bytes e.0) (view e.1) ∙ at.2 in
-    let said : refusal_told error ≡ Some (UnknownField name (string_bytes e.0)) =
-    is_told ∙ ap (λ (o : List ℕ). Some (UnknownField o key)) named ∙ ap (λ (k : List ℕ). Some (UnknownField name k)) is_key in
+    let said : refusal_told error ≡ Some (UnknownField OfModule name (string_bytes e.0)) =
+    is_told ∙ ap (λ (o : List ℕ). Some (UnknownField OfModule o key)) named ∙ ap (λ (k : List ℕ). Some (UnknownField OfModule name k)) is_key in
     subst (λ (d : Data). unknown_among (module_fields (name, d)) ≡ Some refusal) (sym (table_in v t is_v))
     (stopped (InModule name) t.entries es rest e known error at.1 is_es known_is was_not said refusal told)
 

@@ -11,6 +11,7 @@ use Rattle.rl_names.specs.Title.{user_name_of}
 use Rattle.rl_names.specs.declared.counted.Counted.TheVariants.{Modules, ListedBytes, Dependencies}
 use Rattle.rl_defs.specs.declared.draft.Draft.{Draft}
 use Rattle.rl_defs.specs.declared.draft.ModuleDraft.{ModuleDraft}
+use Rattle.rl_defs.specs.declared.error.FieldKind.TheVariants.{OfFile, IsModule, OfModule}
 use Rattle.rl_defs.specs.Refusal.{Refusal, NotToml, UnknownField, BadName, BadDependency, NoFile, TooMany, BadSource}
 use Rattle.rl_defs.specs.Catalogue.{Catalogue}
 use Rattle.rl_defs.specs.Draft.{draft_of, catalogue_of}
@@ -37,11 +38,11 @@ unless is_kept breach = if is_kept then None else Some breach
 -- A field of a module is told by the module's name and its key; a module that is no table has no field to tell. Outside
 -- modules no module is told.
 abbrev pub unknown_at : Place → List ℕ → Refusal
-unknown_at InFile key = UnknownField [] key
-unknown_at InFiles key = UnknownField [] key
-unknown_at InModules key = UnknownField key []
-unknown_at InWiki key = UnknownField [] key
-unknown_at (InModule name) key = UnknownField name key
+unknown_at InFile key = UnknownField OfFile [] key
+unknown_at InFiles key = UnknownField OfFile [] key
+unknown_at InModules key = UnknownField IsModule key []
+unknown_at InWiki key = UnknownField OfFile [] key
+unknown_at (InModule name) key = UnknownField OfModule name key
 
 -- the first of these fields that is not known
 abbrev pub unknown_among : List Field → Option Refusal

@@ -17,7 +17,7 @@ ghost use Rattle.rl_defs.specs.Reading.{inside};
 ghost use Rattle.rl_defs.specs.Refusal.{refusal_told, UnknownField};
 ghost use Rattle.rl_defs.specs.Taken.{Takes, module_taken, wiki_taken, table_taken};
 
-use crate::error::CatalogError;
+use crate::error::{CatalogError, FieldKind};
 use crate::file::File;
 use crate::module_def::ModuleDef;
 use crate::named::Named;
@@ -65,11 +65,17 @@ fn put_some<T: Drop>(place: &mut Option<T>, value: Option<T>) -> bool
     }
 }
 
-/// The refusal of a field of this module, or of none where the module's name is empty.
-fn unknown(alloc: Global, module: &str, field: &str) -> Result<CatalogError, NoMemory>
-    ensures { IfOk result (λ e. refusal_told e ≡ Some (UnknownField «module».now field.now)) }
+/// The refusal of a field of this kind.
+fn unknown(
+    alloc: Global,
+    kind: FieldKind,
+    module: &str,
+    field: &str,
+) -> Result<CatalogError, NoMemory>
+    ensures { IfOk result (λ e. refusal_told e ≡ Some (UnknownField kind «module».now field.now)) }
 {
     Ok(CatalogError::UnknownField {
+        kind,
         module: Text::of(alloc, module)?,
         field: Text::of(alloc, field)?,
     })
@@ -110,7 +116,7 @@ impl Draft {
         ensures orderly { OnOk result (IsDraft self.new) }
     {
         let Value::Table(table) = value else {
-            return Err(unknown(alloc, "", key)?);
+            return Err(unknown(alloc, FieldKind::OfFile, "", key)?);
         };
         match key {
             "files" => {
@@ -122,7 +128,7 @@ impl Draft {
                 Ok(())
             }
             "wiki" => self.take_wiki(alloc, table),
-            _ => Err(unknown(alloc, "", key)?),
+            _ => Err(unknown(alloc, FieldKind::OfFile, "", key)?),
         }
     }
 
@@ -133,7 +139,7 @@ impl Draft {
     {
         'fields: for (key, value) in table {
             if !self.take_of_wiki(alloc, key.as_str(), value)? {
-                return Err(unknown(alloc, "", key.as_str())?);
+                return Err(unknown(alloc, FieldKind::OfFile, "", key.as_str())?);
             }
         }
         Ok(())
@@ -162,7 +168,7 @@ fn files_of(alloc: Global, table: Table) -> Result<Seq<File>, CatalogError>
     let mut files = Vec::with_capacity(alloc, table.len())?;
     'files: for (name, value) in table {
         let Some(text) = text_of(value) else {
-            return Err(unknown(alloc, "", name.as_str())?);
+            return Err(unknown(alloc, FieldKind::OfFile, "", name.as_str())?);
         };
         files.push(File {
             name: Text::from_string(name),
@@ -202,12 +208,17 @@ impl ModuleDraft {
         ensures { Takes result (module_fields (string_bytes name, view value)) (spec.module_draft (string_bytes name, view value)) }
     {
         let Value::Table(table) = value else {
-            return Err(unknown(alloc, name.as_str(), "")?);
+            return Err(unknown(alloc, FieldKind::IsModule, name.as_str(), "")?);
         };
         let mut module = ModuleDraft::named(alloc, name)?;
         'fields: for (key, value) in table {
             if !module.take(alloc, key.as_str(), value)? {
-                return Err(unknown(alloc, module.name.as_str(), key.as_str())?);
+                return Err(unknown(
+                    alloc,
+                    FieldKind::OfModule,
+                    module.name.as_str(),
+                    key.as_str(),
+                )?);
             }
         }
         Ok(module)

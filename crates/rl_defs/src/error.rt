@@ -6,6 +6,17 @@ use rl_names::{Counted, NoMemory, Rule, Text};
 use std::alloc::{AllocError, AllocFailed};
 use thiserror::Error;
 
+/// What a field is that definitions do not have.
+#[derive(Clone, Copy, Debug, PartialEq, Eq)]
+pub enum FieldKind {
+    /// A key of the file or of one of its tables, of no module.
+    OfFile,
+    /// A module that is no table.
+    IsModule,
+    /// A key of a module.
+    OfModule,
+}
+
 /// Why a definitions file is refused.
 ///
 /// The checks run one after another over the whole file, and in each the tables, their keys and
@@ -16,29 +27,49 @@ pub enum CatalogError {
     #[error("the file is not TOML")]
     NotToml,
     /// A table or a key that is not known, or a value that is not of its kind or out of its range.
-    /// `module` is empty outside modules, and `field` is empty where the module is no table.
+    /// `module` is empty outside modules, and `field` is empty where the module is no table; as names may
+    /// be empty too, `kind` tells these apart.
     #[error("unknown or bad field `{field}` (module `{module}`)")]
-    UnknownField { module: Text, field: Text },
+    UnknownField {
+        kind: FieldKind,
+        module: Text,
+        field: Text,
+    },
     /// The name of a module or a skin, or the user name of an admin, that breaks its rule.
     #[error("bad name `{text}`")]
-    BadName { text: Text },
+    BadName {
+        text: Text,
+    },
     /// A dependency that is no name, or the name of no module.
     #[error("module `{module}` depends on `{name}`, which is no module")]
-    BadDependency { module: Text, name: Text },
+    BadDependency {
+        module: Text,
+        name: Text,
+    },
     /// A listed file that the table `files` does not have.
     #[error("module `{module}` lists the file `{file}`, which is not there")]
-    NoFile { module: Text, file: Text },
+    NoFile {
+        module: Text,
+        file: Text,
+    },
     /// A language whose fallbacks break their rule. The table of languages is not read yet, so no
     /// file is refused for it.
     #[error("bad fallbacks of the language `{language}`")]
-    BadChain { language: Text },
+    BadChain {
+        language: Text,
+    },
     /// Too many modules, dependencies of one module, or bytes in listed files. A count above
     /// 2^64 - 1 is told as 2^64 - 1.
     #[error("too many: {count} of {what:?}")]
-    TooMany { what: Counted, count: u64 },
+    TooMany {
+        what: Counted,
+        count: u64,
+    },
     /// A source other than `local`.
     #[error("module `{module}` has an unknown source")]
-    BadSource { module: Text },
+    BadSource {
+        module: Text,
+    },
     #[error("out of memory")]
     NoMemory,
 }

@@ -15,7 +15,7 @@ mod tests;
 mod words;
 
 pub use catalog::Catalog;
-pub use error::CatalogError;
+pub use error::{CatalogError, FieldKind};
 pub use file::File;
 pub use language::Language;
 pub use module_def::{Listed, ModuleDef};

@@ -1,4 +1,6 @@
 pub mod ConcludingLemmas
+pub mod GivenLemmas
+pub mod HearingLemmas
 pub mod JoiningLemmas
 pub mod ListsLemmas
 pub mod PartsLemmas

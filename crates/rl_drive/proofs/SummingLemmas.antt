@@ -9,11 +9,11 @@ use Rattle.std.proofs.lemmas.List.{reverse-append}
 use Rattle.std.proofs.lemmas.List.Folds.{flat_map-map, list_all-append}
 use Rattle.rl_names.specs.declared.row.Row.{Row}
 use Rattle.rl_view_spec.specs.declared.Phase.{Phase}
-use Rattle.rl_view_spec.specs.Closure.{Text, Registered, refusal_of, resolves}
+use Rattle.rl_view_spec.specs.Closure.{Text, refusal_of, resolves}
 use Rattle.rl_view_spec.specs.Laws.{AreLawful}
 use Rattle.rl_view_spec.specs.Numbers.{number_of}
 use Rattle.rl_view_spec.specs.Progress.{name_at, row_numbers, is_touched_at, has_run, phase_of}
-use Rattle.rl_view_spec.specs.View.{Event, is_touched, log_of, state_of}
+use Rattle.rl_view_spec.specs.View.{View, Event, is_touched, log_of, state_of}
 use Rattle.rl_view_spec.proofs.PlacesLemmas.{name_there, number_within}
 use Rattle.rl_view_spec.proofs.ResolveLemmas.{closure_itself, resolves_accepted, touched_resolves}
 use Rattle.rl_view_spec.proofs.StatesLemmas.{untouched}
@@ -23,80 +23,79 @@ use Rattle.rl_script_spec.specs.Output.{are_ready, executed_line, executed_told,
 use Rattle.rl_script_spec.specs.declared.Step.{Step}
 use Rattle.rl_script_spec.specs.declared.Step.TheVariants.{Using, Load, Impl, State}
 use Rattle.rl_view.proofs.ReadingsLemmas.{found_seen, numbers_seen, phase_seen, ran_seen, touched_seen}
-use Rattle.rl_drive.specs.Drives.{quiet}
 use Rattle.rl_drive.specs.Played.{executed_lines, is_ready_at, is_served_at, run_at, state_at, state_lines}
-use Rattle.rl_drive.specs.Player.{Sees}
+use Rattle.rl_drive.specs.Player.{Sees, held}
 use Rattle.rl_drive.specs.declared.player.Player.{Player}
 use Rattle.rl_drive.proofs.ListsLemmas.{flat_map_alike, flat_map_if, flat_map_numbers}
 use Rattle.rl_drive.proofs.RunningLemmas.{key_alike, run_alike}
 
 -- ---- states
 
-module _ (r : Registered) (past : List Event) (p : Player) (s : Sees r past (log_of (quiet r) past) p) where
-  state_line_alike : (k : ℕ) (row : Row) → AreLawful (quiet r) past → slice_get r.rows k ≡ Some row
+module _ (v : View) (past : List Event) (p : Player) (s : Sees v past (log_of v past) p) where
+  state_line_alike : (k : ℕ) (row : Row) → AreLawful v past → slice_get v.registered.rows k ≡ Some row
       → (if is_touched_at p.table k then state_at p.table k else [])
-      ≡ (if is_touched (quiet r) past row.name then state_line (quiet r) past row.name else [])
+      ≡ (if is_touched v past row.name then state_line v past row.name else [])
   state_line_alike k row lawful there =
-      ap₂ (λ (touched : Bool) (text : Text). if touched then text else []) (touched_seen (quiet r) past (log_of (quiet r) past) p.table s.table k row there)
+      ap₂ (λ (touched : Bool) (text : Text). if touched then text else []) (touched_seen v past (log_of v past) p.table s.table k row there)
       (ap₂ (λ (phase : Phase) (key : Text). line (state_word phase ++ codes " " ++ key))
-      (phase_seen (quiet r) past p.table k row lawful s.table there) (key_alike r past (log_of (quiet r) past) p s k row there))
+      (phase_seen v past p.table k row lawful s.table there) (key_alike v past (log_of v past) p s k row there))
 
-  pub states_alike : AreLawful (quiet r) past → state_lines p.table ≡ states_told (quiet r) past
+  pub states_alike : AreLawful v past → state_lines p.table ≡ states_told v past
   states_alike lawful =
       ap (flat_map (λ row. if is_touched_at p.table row then state_at p.table row else []))
-      (numbers_seen (quiet r) past (log_of (quiet r) past) p.table s.table)
+      (numbers_seen v past (log_of v past) p.table s.table)
       ∙ flat_map_numbers (λ row. if is_touched_at p.table row then state_at p.table row else [])
-      (λ (row : Row). if is_touched (quiet r) past row.name then state_line (quiet r) past row.name else []) 0 r.rows
+      (λ (row : Row). if is_touched v past row.name then state_line v past row.name else []) 0 v.registered.rows
       (λ k row there. let zero : k ≡ 0 + k = omega arith in
       subst (λ (m : ℕ). (if is_touched_at p.table m then state_at p.table m else [])
-      ≡ (if is_touched (quiet r) past row.name then state_line (quiet r) past row.name else []))
+      ≡ (if is_touched v past row.name then state_line v past row.name else []))
       zero (state_line_alike k row lawful there))
-      ∙ sym (flat_map-map (λ (name : Text). if is_touched (quiet r) past name then state_line (quiet r) past name else []) (λ (row : Row). row.name) r.rows)
-      ∙ flat_map_if (is_touched (quiet r) past) (state_line (quiet r) past) (map (λ (row : Row). row.name) r.rows)
+      ∙ sym (flat_map-map (λ (name : Text). if is_touched v past name then state_line v past name else []) (λ (row : Row). row.name) v.registered.rows)
+      ∙ flat_map_if (is_touched v past) (state_line v past) (map (λ (row : Row). row.name) v.registered.rows)
 
   -- ---- executed rows
 
-  executed_alike_at : (k : ℕ) (row : Row) → slice_get r.rows k ≡ Some row
-      → (if has_run p.table k then line (codes "executed " ++ run_at p.table p.lengths.items k) else [])
-      ≡ (if list_any (nat_eq k) (log_of (quiet r) past) then executed_line (quiet r) past (name_at r k) else [])
+  executed_alike_at : (k : ℕ) (row : Row) → slice_get v.registered.rows k ≡ Some row
+      → (if has_run p.table k then line (codes "executed " ++ run_at p.table (held p) k) else [])
+      ≡ (if list_any (nat_eq k) (log_of v past) then executed_line v past (name_at v.registered k) else [])
   executed_alike_at k row there =
       ap₂ (λ (ran : Bool) (text : Text). if ran then line (codes "executed " ++ text) else [])
-      (ran_seen (quiet r) past (log_of (quiet r) past) p.table s.table k)
-      (run_alike r past (log_of (quiet r) past) p s k row there ∙ ap (run_text (quiet r) past) (sym (name_there r k row there)))
+      (ran_seen v past (log_of v past) p.table s.table k)
+      (run_alike v past (log_of v past) p s k row there ∙ ap (run_text v past) (sym (name_there v.registered k row there)))
 
-  pub executed_alike : executed_lines p.table p.lengths.items ≡ executed_told (quiet r) past
+  pub executed_alike : executed_lines p.table (held p) ≡ executed_told v past
   executed_alike =
-      ap (flat_map (λ row. if has_run p.table row then line (codes "executed " ++ run_at p.table p.lengths.items row) else []))
-      (numbers_seen (quiet r) past (log_of (quiet r) past) p.table s.table)
-      ∙ flat_map_alike (λ row. if has_run p.table row then line (codes "executed " ++ run_at p.table p.lengths.items row) else [])
-      (λ row. if list_any (nat_eq row) (log_of (quiet r) past) then executed_line (quiet r) past (name_at r row) else []) (row_numbers r)
-      (λ k c. let m = place_there r.rows k (number_within r k c) in executed_alike_at k m.0 m.1)
-      ∙ flat_map_if (λ row. list_any (nat_eq row) (log_of (quiet r) past)) (λ row. executed_line (quiet r) past (name_at r row)) (row_numbers r)
+      ap (flat_map (λ row. if has_run p.table row then line (codes "executed " ++ run_at p.table (held p) row) else []))
+      (numbers_seen v past (log_of v past) p.table s.table)
+      ∙ flat_map_alike (λ row. if has_run p.table row then line (codes "executed " ++ run_at p.table (held p) row) else [])
+      (λ row. if list_any (nat_eq row) (log_of v past) then executed_line v past (name_at v.registered row) else []) (row_numbers v.registered)
+      (λ k c. let m = place_there v.registered.rows k (number_within v.registered k c) in executed_alike_at k m.0 m.1)
+      ∙ flat_map_if (λ row. list_any (nat_eq row) (log_of v past)) (λ row. executed_line v past (name_at v.registered row)) (row_numbers v.registered)
 
 -- ---- readiness
 
-touched_ready : (r : Registered) (past : List Event) (name : Text) → is_ready (state_of (quiet r) past name) ≡ true →
-    is_touched (quiet r) past name ≡ true
-touched_ready r past name h = true_from_ne_false (is_touched (quiet r) past name)
-    (λ e. let f : false ≡ true = sym (ap is_ready (untouched (quiet r) past name e)) ∙ h in absurd (cc))
+touched_ready : (v : View) (past : List Event) (name : Text) → is_ready (state_of v past name) ≡ true →
+    is_touched v past name ≡ true
+touched_ready v past name h = true_from_ne_false (is_touched v past name)
+    (λ e. let f : false ≡ true = sym (ap is_ready (untouched v past name e)) ∙ h in absurd (cc))
 
-pub ready_alike : (r : Registered) (past : List Event) (p : Player) (name : Text) → AreLawful (quiet r) past → Sees r past (log_of (quiet r) past) p
-    → is_ready_at p.table name ≡ is_ready (state_of (quiet r) past name)
-ready_alike r past p name lawful s =
+pub ready_alike : (v : View) (past : List Event) (p : Player) (name : Text) → AreLawful v past → Sees v past (log_of v past) p
+    → is_ready_at p.table name ≡ is_ready (state_of v past name)
+ready_alike v past p name lawful s =
     ap (λ (o : Option ℕ). option_map_or (λ row. is_ready (phase_of p.table row)) o false)
-    (found_seen (quiet r) past (log_of (quiet r) past) p.table s.table name)
-    ∙ step (number_of r name) refl
+    (found_seen v past (log_of v past) p.table s.table name)
+    ∙ step (number_of v.registered name) refl
   where
-    step : (o : Option ℕ) → number_of r name ≡ o → option_map_or (λ row. is_ready (phase_of p.table row)) o false
-        ≡ is_ready (state_of (quiet r) past name)
-    step None e = sym (false_from_ne_true (is_ready (state_of (quiet r) past name)) (λ h.
-        let f = number_found r name ((touched_resolves (quiet r) past name lawful (touched_ready r past name h)).known name (closure_itself r name)) in
+    step : (o : Option ℕ) → number_of v.registered name ≡ o → option_map_or (λ row. is_ready (phase_of p.table row)) o false
+        ≡ is_ready (state_of v past name)
+    step None e = sym (false_from_ne_true (is_ready (state_of v past name)) (λ h.
+        let f = number_found v.registered name ((touched_resolves v past name lawful (touched_ready v past name h)).known name (closure_itself v.registered name)) in
         let g : None ≡ Some f.0 = sym e ∙ f.1 in absurd (cc)))
     step (Some k) e =
-        let n = number_named r name k e in
-        let m = place_there r.rows k n.0 in
-        ap is_ready (phase_seen (quiet r) past p.table k m.0 lawful s.table m.1)
-        ∙ ap (λ (x : Text). is_ready (state_of (quiet r) past x)) (sym (name_there r k m.0 m.1) ∙ n.1)
+        let n = number_named v.registered name k e in
+        let m = place_there v.registered.rows k n.0 in
+        ap is_ready (phase_seen v past p.table k m.0 lawful s.table m.1)
+        ∙ ap (λ (x : Text). is_ready (state_of v past x)) (sym (name_there v.registered k m.0 m.1) ∙ n.1)
 
 all_alike : {X : Type 0} (p q : X → Bool) (xs : List X) → ((x : X) → p x ≡ q x) → list_all p xs ≡ list_all q xs
 all_alike p q [] each = refl
@@ -108,29 +107,29 @@ and_implied false false h = refl
 and_implied false true h = sym (h refl)
 
 -- a name that is ready was accepted
-ready_resolves : (r : Registered) (past : List Event) (names : List Text) → AreLawful (quiet r) past → are_ready (quiet r) past names ≡ true →
-    refusal_of r names ≡ None
-ready_resolves r past names lawful h = resolves_accepted r names (λ name c.
-    touched_resolves (quiet r) past name lawful (touched_ready r past name (all_each (λ name. is_ready (state_of (quiet r) past name)) names name h c)))
+ready_resolves : (v : View) (past : List Event) (names : List Text) → AreLawful v past → are_ready v past names ≡ true →
+    refusal_of v.registered names ≡ None
+ready_resolves v past names lawful h = resolves_accepted v.registered names (λ name c.
+    touched_resolves v past name lawful (touched_ready v past name (all_each (λ name. is_ready (state_of v past name)) names name h c)))
 
-each_resolves : (r : Registered) (past : List Event) (names : List Text) → AreLawful (quiet r) past → are_ready (quiet r) past names ≡ true →
-    list_all (resolves r) names ≡ true
-each_resolves r past names lawful h = each_all (resolves r) names (λ name c.
-    ap is_none (resolves_accepted r (name ∷ []) (λ other d. ⊎_elim
-    (λ e. touched_resolves (quiet r) past other lawful (touched_ready r past other
-    (subst (λ (x : Text). is_ready (state_of (quiet r) past x) ≡ true) e (all_each (λ name. is_ready (state_of (quiet r) past name)) names name h c))))
+each_resolves : (v : View) (past : List Event) (names : List Text) → AreLawful v past → are_ready v past names ≡ true →
+    list_all (resolves v.registered) names ≡ true
+each_resolves v past names lawful h = each_all (resolves v.registered) names (λ name c.
+    ap is_none (resolves_accepted v.registered (name ∷ []) (λ other d. ⊎_elim
+    (λ e. touched_resolves v past other lawful (touched_ready v past other
+    (subst (λ (x : Text). is_ready (state_of v past x) ≡ true) e (all_each (λ name. is_ready (state_of v past name)) names name h c))))
     (λ none. absurd (contains_none other none)) (contains_cases name [] other d))))
 
-pub served_alike : (r : Registered) (past : List Event) (p : Player) (step : Step) → AreLawful (quiet r) past → Sees r past (log_of (quiet r) past) p
-    → is_served_at p.table step ≡ was_served (quiet r) past step
-served_alike r past p (Using names) lawful s =
-    all_alike (is_ready_at p.table) (λ name. is_ready (state_of (quiet r) past name)) names (λ name. ready_alike r past p name lawful s)
-    ∙ and_implied (is_none (refusal_of r names)) (are_ready (quiet r) past names) (λ h. ap is_none (ready_resolves r past names lawful h))
-served_alike r past p (Load names) lawful s =
-    all_alike (is_ready_at p.table) (λ name. is_ready (state_of (quiet r) past name)) names (λ name. ready_alike r past p name lawful s)
-    ∙ and_implied (list_all (resolves r) names) (are_ready (quiet r) past names) (λ h. each_resolves r past names lawful h)
-served_alike r past p (Impl key script) lawful s = refl
-served_alike r past p (State name kind) lawful s = refl
+pub served_alike : (v : View) (past : List Event) (p : Player) (step : Step) → AreLawful v past → Sees v past (log_of v past) p
+    → is_served_at p.table step ≡ was_served v past step
+served_alike v past p (Using names) lawful s =
+    all_alike (is_ready_at p.table) (λ name. is_ready (state_of v past name)) names (λ name. ready_alike v past p name lawful s)
+    ∙ and_implied (is_none (refusal_of v.registered names)) (are_ready v past names) (λ h. ap is_none (ready_resolves v past names lawful h))
+served_alike v past p (Load names) lawful s =
+    all_alike (is_ready_at p.table) (λ name. is_ready (state_of v past name)) names (λ name. ready_alike v past p name lawful s)
+    ∙ and_implied (list_all (resolves v.registered) names) (are_ready v past names) (λ h. each_resolves v past names lawful h)
+served_alike v past p (Impl key script) lawful s = refl
+served_alike v past p (State name kind) lawful s = refl
 
 -- in either order
 pub all_reversed : {X : Type 0} (p : X → Bool) (xs : List X) → list_all p (reverse xs) ≡ list_all p xs
@@ -144,8 +143,8 @@ all_reversed p (x ∷ xs) = ap (list_all p) (reverse-append (x ∷ []) xs) ∙ l
     turned false true = refl
     turned false false = refl
 
-pub all_served : (r : Registered) (past : List Event) (p : Player) (steps : List Step) → AreLawful (quiet r) past → Sees r past (log_of (quiet r) past) p
-    → list_all (is_served_at p.table) steps ≡ list_all (was_served (quiet r) past) (reverse steps)
-all_served r past p steps lawful s =
-    all_alike (is_served_at p.table) (was_served (quiet r) past) steps (λ step. served_alike r past p step lawful s)
-    ∙ sym (all_reversed (was_served (quiet r) past) steps)
+pub all_served : (v : View) (past : List Event) (p : Player) (steps : List Step) → AreLawful v past → Sees v past (log_of v past) p
+    → list_all (is_served_at p.table) steps ≡ list_all (was_served v past) (reverse steps)
+all_served v past p steps lawful s =
+    all_alike (is_served_at p.table) (was_served v past) steps (λ step. served_alike v past p step lawful s)
+    ∙ sym (all_reversed (was_served v past) steps)

@@ -1,7 +1,6 @@
 -- What becomes of a script.
 use Rattle.std.specs.Prelude.{◌≡◌, Option, Some, None, Result}
 use Rattle.rl_names.specs.Meant.{ButForMemory}
-pub use Rattle.rl_view_spec.specs.Keys.{never, quiet}
 use Rattle.rl_script_spec.specs.Script.{Verdict, Prints, BadLine, TooMany}
 use Rattle.rl_drive.specs.declared.script.DriveError.{DriveError}
 use Rattle.rl_drive.specs.declared.script.DriveError.TheVariants as errors

@@ -1,4 +1,6 @@
 pub mod Drives
 pub mod Errors
+pub mod Given
+pub mod Hearing
 pub mod Played
 pub mod Player

@@ -1,7 +1,7 @@
 //! The loop over the steps of a `drive` script: it does them, and writes the replies, what ran and the summary.
 #![tactic(auto)]
 
-mod lengths;
+mod given;
 mod player;
 mod script;
 mod steps;

@@ -1,19 +1,21 @@
 //! A view of which steps are played.
-ghost use Rattle.std.specs.Prelude.{◌≡◌, ◌++◌, ◌<◌, [], List, None, All, IfOk, OnOk, codes, length};
+ghost use Rattle.std.specs.Prelude.{◌≡◌, ◌++◌, ◌<◌, [], ℕ, List, None, All, IfOk, OnOk, OnErr, codes, length, option_to_list};
 ghost use Rattle.std.specs.List.{list_all};
-ghost use Rattle.rl_view_spec.specs.Closure.{Registered, resolves};
+ghost use Rattle.rl_names.specs.declared.name.Key.{Key};
+ghost use Rattle.rl_view_spec.specs.Closure.{resolves};
 ghost use Rattle.rl_view_spec.specs.Progress.{next_row};
 ghost use Rattle.rl_view_spec.specs.Requests.{accepted_each};
-ghost use Rattle.rl_view_spec.specs.View.{kind_of};
+ghost use Rattle.rl_view_spec.specs.View.{View, kind_of};
 ghost use Rattle.rl_script_spec.specs.Output.{answer_of, events_of, line, summary_of};
 ghost use Rattle.rl_script_spec.specs.declared.Step.{Step};
+ghost use Rattle.rl_view.specs.Heard.{after_hearing};
 ghost use Rattle.rl_view.specs.Seen.{counting_row, counts_at};
-ghost use Rattle.rl_drive.specs.Drives.{quiet};
-ghost use Rattle.rl_drive.specs.Played.{executed_lines, is_private_at, is_ready_at, is_served_at, key_at, run_at, state_at, state_lines};
+ghost use Rattle.rl_drive.specs.Played.{executed_lines, execution_at, is_private_at, is_ready_at, is_served_at, key_at, run_at, run_word, script_length, state_at, state_lines, throws_for_run};
 
-use crate::lengths::no_lengths;
+use crate::given::{Given, nothing_given};
 use crate::text::{state_word, write, write_key, write_line, write_number};
 use crate::uncounted;
+use rl_base::Hears;
 use rl_names::{Group, Key, NoMemory, StateKind, Text};
 use rl_registry::{Registry, ResolveError};
 use rl_script_spec::Step;
@@ -25,42 +27,51 @@ use std::sync::ledger::Blank;
 
 /// A view of which some steps were played.
 #[derive(Drop)]
-pub struct Player {
+pub struct Player<'a> {
     alloc: Global,
     table: Table,
-    /// How many bytes the script of each row has; 0 where it has none.
-    lengths: Vec<usize>,
+    /// The implementation of each row.
+    given: Vec<Option<Given<'a>>>,
     ghost idle: { table.executing ≡ None },
-    ghost long: { length lengths.items ≡ length table.registered.rows },
+    ghost long: { length given.items ≡ length table.registered.rows },
 }
 
-impl Player {
-    ghost use Rattle.rl_drive.specs.Player.{HasPlayed, Plays, RefusesAll, RefusesPrivate, Requests, RunsDue, RunsNext, TakesIn};
+impl<'a> Player<'a> {
+    ghost use Rattle.rl_drive.specs.Player.{HasPlayed, Plays, RefusesAll, RefusesPrivate, Requests, RunsDue, RunsNext, StopsDue, StopsStep, TakesIn, held};
 
     /// A view of which no step was played.
-    pub fn open(alloc: Global, registry: Registry) -> Result<Player, NoMemory>
+    pub fn open(alloc: Global, registry: Registry) -> Result<Player<'a>, NoMemory>
         ensures rest { IfOk result (λ player. next_row player.table ≡ None) }
-        ensures played { IfOk result (λ player. HasPlayed registry [] player) }
+        ensures played { IfOk result (λ player. (v : View) → v.registered ≡ registry → HasPlayed v [] player) }
     {
-        let lengths = no_lengths(alloc, &registry)?;
+        let given = nothing_given(alloc, &registry)?;
         let table = Table::open(alloc, registry)?;
         Ok(Player {
             alloc,
             table,
-            lengths,
+            given,
         })
     }
 
-    /// Plays a step: adds its reply, and then a line for each run that it made due.
-    pub fn step(&mut self, step: &Step, out: &mut Vec<u8>) -> Result<(), NoMemory>
-        ensures { OnOk result (Plays step.now self.old self.new out.old.items out.new.items) }
+    /// Plays a step: adds its reply, and then, for each run that it made due, tells the observers and adds a line.
+    pub fn step<O: Hears>(
+        &mut self,
+        step: &'a Step,
+        observers: &mut O,
+        out: &mut Vec<u8>,
+    ) -> Result<(), NoMemory>
+        ensures plays { OnOk result (Plays (O.says observers.old) step.now self.old self.new out.old.items out.new.items
+            (O.told observers.old) (O.told observers.new)) }
+        ensures stops { OnErr result (StopsStep (O.says observers.old) step.now self.old (O.told observers.old) (O.told observers.new)) }
+        ensures fixed { (k : Key) (s : List ℕ) → O.says observers.new k s ≡ O.says observers.old k s }
+        ensures same { (first : O) → O.same first observers.old → O.same first observers.new }
     {
         self.take_in(step, out)?;
-        self.run_due(out)
+        self.run_due(observers, out)
     }
 
     /// Does what a step asks for, and adds the reply.
-    fn take_in(&mut self, step: &Step, out: &mut Vec<u8>) -> Result<(), NoMemory>
+    fn take_in(&mut self, step: &'a Step, out: &mut Vec<u8>) -> Result<(), NoMemory>
         ensures { OnOk result (TakesIn step.now self.old self.new out.old.items out.new.items) }
     {
         match step {
@@ -186,7 +197,7 @@ impl Player {
     }
 
     /// Gives the row of a key its implementation.
-    fn give(&mut self, key: &Key, script: &Text, out: &mut Vec<u8>) -> Result<(), NoMemory>
+    fn give(&mut self, key: &'a Key, script: &'a Text, out: &mut Vec<u8>) -> Result<(), NoMemory>
         ensures { OnOk result (TakesIn (Step.Impl key.now script.now) self.old self.new out.old.items out.new.items) }
     {
         let Some(row) = self.counting_row(key.name.as_bytes()) else {
@@ -194,7 +205,7 @@ impl Player {
         };
         uncounted::outcome::<Brand>(&mut self.table, row, Outcome::Impl, Blank::new(1));
         self.table.registry_mut(row, key.version);
-        self.lengths[row as usize] = script.as_bytes().len();
+        self.given[row as usize] = Some(Given { key, script });
         write_line(out, "used")
     }
 
@@ -209,20 +220,47 @@ impl Player {
         write_line(out, "used")
     }
 
-    /// Runs the row of least number that may run, if there is one.
-    fn run_next(&mut self) -> Option<u32>
-        ensures { RunsNext result self.old self.new }
+    /// Tells the observers that a row runs, and answers whether one throws. Of a row that was given nothing none is told.
+    fn tell<O: Hears>(&self, row: u32, observers: &mut O) -> Result<bool, NoMemory>
+        requires { row < length self.now.table.registered.rows }
+        ensures threw { IfOk result (λ threw. threw ≡ throws_for_run (O.says observers.old) (execution_at (held self.now) row)) }
+        ensures told { OnOk result (O.told observers.new
+            ≡ after_hearing (option_to_list (execution_at (held self.now) row)) (O.told observers.old)) }
+        ensures refused { OnErr result (O.told observers.new ≡ O.told observers.old) }
+        ensures fixed { (k : Key) (s : List ℕ) → O.says observers.new k s ≡ O.says observers.old k s }
+        ensures same { (first : O) → O.same first observers.old → O.same first observers.new }
     {
-        let row = uncounted::run_next::<Brand>(&mut self.table, Blank::new(1))?;
-        Some(row)
+        match self.given[row as usize] {
+            Some(given) => observers.hear(given.key, given.script.as_bytes()),
+            None => Ok(false),
+        }
     }
 
-    /// Runs all that may run, the row of least number first, and adds a line for each run.
-    fn run_due(&mut self, out: &mut Vec<u8>) -> Result<(), NoMemory>
-        ensures { OnOk result (RunsDue self.old self.new out.old.items out.new.items) }
+    /// Runs the row of least number that may run, if there is one, and answers whether it threw. The observers are told
+    /// first; where they have no room nothing runs.
+    fn run_next<O: Hears>(&mut self, observers: &mut O) -> Result<Option<(u32, bool)>, NoMemory>
+        ensures runs { RunsNext (O.says observers.old) result self.old self.new (O.told observers.old) (O.told observers.new) }
+        ensures fixed { (k : Key) (s : List ℕ) → O.says observers.new k s ≡ O.says observers.old k s }
+        ensures same { (first : O) → O.same first observers.old → O.same first observers.new }
     {
-        'runs: while let Some(row) = self.run_next() {
-            self.write_run("ran ", row, out)?;
+        let Some(row) = uncounted::first_run::<Brand>(&self.table, Blank::new(1)) else {
+            return Ok(None);
+        };
+        let threw = self.tell(row, observers)?;
+        uncounted::run::<Brand>(&mut self.table, row, threw, Blank::new(1));
+        Ok(Some((row, threw)))
+    }
+
+    /// Runs all that may run, the row of least number first, tells the observers of each run, and adds a line for it.
+    fn run_due<O: Hears>(&mut self, observers: &mut O, out: &mut Vec<u8>) -> Result<(), NoMemory>
+        ensures runs { OnOk result (RunsDue (O.says observers.old) self.old self.new out.old.items out.new.items
+            (O.told observers.old) (O.told observers.new)) }
+        ensures stops { OnErr result (StopsDue (O.says observers.old) self.old (O.told observers.old) (O.told observers.new)) }
+        ensures fixed { (k : Key) (s : List ℕ) → O.says observers.new k s ≡ O.says observers.old k s }
+        ensures same { (first : O) → O.same first observers.old → O.same first observers.new }
+    {
+        'runs: while let Some((row, threw)) = self.run_next(observers)? {
+            self.write_run(word_of(threw), row, out)?;
         }
         Ok(())
     }
@@ -236,15 +274,26 @@ impl Player {
         write_key(out, row.name.as_str(), &row.version)
     }
 
+    /// How many bytes the script of a row has; 0 where it has none.
+    fn script_length(&self, row: u32) -> usize
+        requires { row < length self.now.table.registered.rows }
+        ensures { result ≡ script_length (execution_at (held self.now) row) }
+    {
+        match self.given[row as usize] {
+            Some(given) => given.script.as_bytes().len(),
+            None => 0,
+        }
+    }
+
     /// Adds a line with a word, the key of a row and the length of its script.
     fn write_run(&self, word: &str, row: u32, out: &mut Vec<u8>) -> Result<(), NoMemory>
         requires { row < length self.now.table.registered.rows }
-        ensures { OnOk result (out.new.items ≡ out.old.items ++ line (word.now ++ run_at self.now.table self.now.lengths.items row)) }
+        ensures { OnOk result (out.new.items ≡ out.old.items ++ line (word.now ++ run_at self.now.table (held self.now) row)) }
     {
         write(out, word)?;
         self.write_row(row, out)?;
         write(out, " ")?;
-        write_number(out, self.lengths[row as usize])?;
+        write_number(out, self.script_length(row))?;
         write_line(out, "")
     }
 
@@ -275,7 +324,7 @@ impl Player {
 
     /// Adds the rows that ran, in row order.
     fn write_executed(&self, out: &mut Vec<u8>) -> Result<(), NoMemory>
-        ensures { OnOk result (out.new.items ≡ out.old.items ++ executed_lines self.now.table self.now.lengths.items) }
+        ensures { OnOk result (out.new.items ≡ out.old.items ++ executed_lines self.now.table (held self.now)) }
     {
         for row in 0..self.table.registry().count() {
             if self.table.has_run(row) {
@@ -288,8 +337,8 @@ impl Player {
     /// Adds the summary.
     pub fn summary(&self, out: &mut Vec<u8>) -> Result<(), NoMemory>
         requires { next_row self.now.table ≡ None }
-        ensures { OnOk result ((r : Registered) (past : List Step) → HasPlayed r past self.now
-            → out.new.items ≡ out.old.items ++ line (codes "summary") ++ summary_of 0 (quiet r) (events_of r past)) }
+        ensures { OnOk result ((v : View) (past : List Step) → HasPlayed v past self.now
+            → out.new.items ≡ out.old.items ++ line (codes "summary") ++ summary_of 0 v (events_of v.registered past)) }
     {
         write_line(out, "summary")?;
         write(out, "view ")?;
@@ -345,4 +394,11 @@ fn outcome_of(kind: StateKind) -> Outcome
         StateKind::Missing => Outcome::Missing,
         StateKind::Error => Outcome::Error,
     }
+}
+
+/// What is printed before a run.
+fn word_of(threw: bool) -> &'static str
+    ensures { result.now ≡ run_word threw }
+{
+    if threw { "threw " } else { "ran " }
 }

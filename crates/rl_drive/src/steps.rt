@@ -1,9 +1,12 @@
 //! All steps of a script.
-ghost use Rattle.std.specs.Prelude.{◌≡◌, IfOk, reverse};
-ghost use Rattle.rl_script_spec.specs.Output.{all_ready, output_of};
-ghost use Rattle.rl_drive.specs.Drives.{quiet};
+ghost use Rattle.std.specs.Prelude.{◌≡◌, ℕ, List, IfOk, reverse};
+ghost use Rattle.rl_names.specs.declared.name.Key.{Key};
+ghost use Rattle.rl_script_spec.specs.Output.{all_ready, events_of, output_of};
+ghost use Rattle.rl_view.specs.Heard.{executions, watched};
+ghost use Rattle.rl_drive.specs.Hearing.{ArePlayed};
 
 use crate::player::Player;
+use rl_base::Hears;
 use rl_names::NoMemory;
 use rl_registry::Registry;
 use rl_script_spec::Step;
@@ -18,15 +21,25 @@ pub struct Driven {
     pub ready: bool,
 }
 
-/// Plays the steps, in order, on a view of the registry in which nothing throws.
-pub fn play(alloc: Global, registry: Registry, steps: &[Step]) -> Result<Driven, NoMemory>
-    ensures text { IfOk result (λ driven. driven.text.items ≡ output_of (quiet registry) (reverse steps.now)) }
-    ensures ready { IfOk result (λ driven. driven.ready ≡ all_ready (quiet registry) (reverse steps.now)) }
+/// Plays the steps, in order, on a view of the registry, whose observers are told of each run before it counts: a row threw
+/// where one of them throws. Where memory runs out they were told of the first runs.
+pub fn play<O: Hears>(
+    alloc: Global,
+    registry: Registry,
+    steps: &[Step],
+    observers: &mut O,
+) -> Result<Driven, NoMemory>
+    ensures text { IfOk result (λ driven. driven.text.items ≡ output_of (watched (O.says observers.old) registry) (reverse steps.now)) }
+    ensures ready { IfOk result (λ driven. driven.ready ≡ all_ready (watched (O.says observers.old) registry) (reverse steps.now)) }
+    ensures heard { ArePlayed result (executions (watched (O.says observers.old) registry) (events_of registry (reverse steps.now)))
+        (O.told observers.old) (O.told observers.new) }
+    ensures fixed { (k : Key) (s : List ℕ) → O.says observers.new k s ≡ O.says observers.old k s }
+    ensures same { (first : O) → O.same first observers.old → O.same first observers.new }
 {
     let mut player = Player::open(alloc, registry)?;
     let mut text = Vec::new(alloc);
     for step in steps {
-        player.step(step, &mut text)?;
+        player.step(step, observers, &mut text)?;
     }
     player.summary(&mut text)?;
     let ready = player.all_served(steps);

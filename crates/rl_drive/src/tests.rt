@@ -3,15 +3,36 @@ ghost use Rattle.std.specs.Prelude.{IfOk, IsTrue};
 ghost use Rattle.rl_view_spec.specs.Rows.{has_own_group, has_version_unless_private};
 
 use crate::{DriveError, Driven, drive, play};
+use rl_base::Hears;
 use rl_names::{Dep, Group, Key, Name, NoMemory, Row, Seq, StateKind, Text, Version};
 use rl_registry::Registry;
 use rl_script_spec::Step;
 use std::alloc::Global;
 use std::test::Fail;
 
+/// Observers who throw for the module of one name.
+#[derive(Drop)]
+struct ThrowFor {
+    name: &'static [u8],
+}
+
+impl Hears for ThrowFor {
+    ghost use Rattle.std.specs.Prelude.{◌≡◌, [], bytes_eq};
+
+    ghost told = { λ _. [] };
+
+    ghost says = { λ t k s. bytes_eq k.name t.name.now };
+
+    ghost same = { λ first t. first ≡ t };
+
+    fn hear(&mut self, key: &Key, _script: &[u8]) -> Result<bool, NoMemory> {
+        Ok(key.name.as_bytes() == self.name)
+    }
+}
+
 /// What a script comes to: what is printed for it, and a line that says whether all is ready; or why it came to nothing.
 fn driven(alloc: Global, script: &[u8]) -> Result<Vec<u8>, NoMemory> {
-    match drive(alloc, script) {
+    match drive(alloc, script, &mut ThrowFor { name: b"" }) {
         Ok(Driven { mut text, ready }) => {
             let end = if ready { "done\n" } else { "not ready\n" };
             text.extend_from_slice(end.as_bytes())?;
@@ -288,9 +309,27 @@ fn steps_by_hand(rt: HostRuntime) -> Result<(), Fail> {
     let alloc = rt.alloc();
     for (played, ready, output) in STEPS {
         let steps = steps(alloc, played)?;
-        let driven = play(alloc, registry(alloc, &ROWS)?, steps.as_slice())?;
+        let registry = registry(alloc, &ROWS)?;
+        let mut nobody = ThrowFor { name: b"" };
+        let driven = play(alloc, registry, steps.as_slice(), &mut nobody)?;
         assert_eq!(rt; driven.text.as_slice(), output.as_bytes());
         assert_eq!(rt; driven.ready, ready);
     }
+    Ok(())
+}
+
+/// `B` throws, so that `A`, which needs it, never runs.
+#[test]
+fn a_module_throws(rt: HostRuntime) -> Result<(), Fail> {
+    let alloc = rt.alloc();
+    let mut observers = ThrowFor { name: b"B" };
+    let driven = drive(alloc, CHAIN_OF_THREE.as_bytes(), &mut observers)?;
+    assert!(rt; !driven.ready);
+    assert_eq!(rt;
+        driven.text.as_slice(),
+        b"using ok\nused\nused\nused\nran C@ccccc 3\nthrew B@bbbbb 3\nsummary\nview 0\n\
+error A@aaaaa\nerror B@bbbbb\nready C@ccccc\nexecuted B@bbbbb 3\nexecuted C@ccccc 3\n"
+            .as_slice()
+    );
     Ok(())
 }

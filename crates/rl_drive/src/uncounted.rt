@@ -1,5 +1,5 @@
 //! Calls of a table whose steps nobody counts.
-ghost use Rattle.std.specs.Prelude.{◌≡◌, ◌<◌, None, false, length, All, IsTrue, IsFalse, MatchOption};
+ghost use Rattle.std.specs.Prelude.{◌≡◌, ◌<◌, Some, None, length, All, IsTrue, IsFalse};
 ghost use Rattle.rl_view_spec.specs.Progress.{is_touched_at, is_skipped_at, outcome_at, next_row};
 ghost use Rattle.rl_states.specs.Changes.{after_touch, after_outcome, after_ran};
 
@@ -33,17 +33,27 @@ pub fn outcome<L: Ledger>(table: &mut Table, row: u32, outcome: Outcome, blank: 
     table.outcome(row, outcome, &mut steps);
 }
 
-/// Runs the row of least number that may run, if there is one.
-pub fn run_next<L: Ledger>(table: &mut Table, blank: Blank) -> Option<u32>
+/// The row of least number that may run, if there is one.
+pub fn first_run<L: Ledger>(table: &Table, blank: Blank) -> Option<u32>
+    requires name { blank.name ≡ L.name }
+    requires parts { blank.parts ≡ L.parts }
+    requires some { 0 < L.parts }
+    ensures { result ≡ next_row table.now }
+{
+    let mut steps = Steps::<L>::open(blank);
+    table.first_run(&mut steps)
+}
+
+/// Notes in a table that a row ran, the one of least number that may, and whether an observer threw.
+pub fn run<L: Ledger>(table: &mut Table, row: u32, threw: bool, blank: Blank)
     requires name { blank.name ≡ L.name }
     requires parts { blank.parts ≡ L.parts }
     requires some { 0 < L.parts }
     requires idle { table.old.executing ≡ None }
-    ensures row { result ≡ next_row table.old }
-    ensures after { MatchOption result (table.new ≡ table.old) (λ row. table.new ≡ after_ran row false table.old) }
+    requires next { next_row table.old ≡ Some row }
+    ensures { table.new ≡ after_ran row threw table.old }
 {
     let mut steps = Steps::<L>::open(blank);
-    let row = table.next_run(&mut steps)?;
-    table.ran(row, false, &mut steps);
-    Some(row)
+    table.next_run(&mut steps);
+    table.ran(row, threw, &mut steps);
 }

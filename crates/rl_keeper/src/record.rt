@@ -1,7 +1,8 @@
 //! The form in which an entry is kept.
 ghost use Rattle.std.specs.Prelude.{◌≡◌, IfOk, IsOk, Ok, Some, None, true, if◌then◌else◌};
 ghost use Rattle.std.specs.Str.{is_utf8};
-ghost use Rattle.rl_keeper.specs.Record.{record_of, entry_of, edit_of, choice_of, is_spelt_title, Reads, RecordsAreReadAgain};
+ghost use Rattle.rl_names.specs.Meant.{Gives};
+ghost use Rattle.rl_keeper.specs.Record.{record_of, entry_of, edit_of, choice_of, fault_told, is_spelt_title, RecordsAreReadAgain};
 
 use rl_names::{Blob, NoMemory, Text, Title, TitleError};
 use rl_pages::Entry;
@@ -119,7 +120,7 @@ fn title_in(alloc: Global, bytes: &[u8]) -> Result<Option<Title>, NoMemory>
 }
 
 fn read_edit(alloc: Global, kept: &Record) -> Result<Entry, RecordError>
-    ensures { Reads result (edit_of kept.now.a kept.now.b kept.now.c) }
+    ensures { Gives fault_told result (edit_of kept.now.a kept.now.b kept.now.c) }
 {
     let Some(by) = text_in(alloc, kept.a.as_bytes())? else {
         return Err(RecordError::BadText { place: 0 });
@@ -134,7 +135,7 @@ fn read_edit(alloc: Global, kept: &Record) -> Result<Entry, RecordError>
 }
 
 fn read_choice(alloc: Global, kept: &Record) -> Result<Entry, RecordError>
-    ensures { Reads result (choice_of kept.now.a kept.now.b kept.now.c) }
+    ensures { Gives fault_told result (choice_of kept.now.a kept.now.b kept.now.c) }
 {
     let Some(user) = text_in(alloc, kept.a.as_bytes())? else {
         return Err(RecordError::BadText { place: 0 });
@@ -150,7 +151,7 @@ fn read_choice(alloc: Global, kept: &Record) -> Result<Entry, RecordError>
 
 /// The entry of a record, or the first rule that it breaks.
 pub fn read_record(alloc: Global, kept: &Record) -> Result<Entry, RecordError>
-    ensures { Reads result (entry_of kept.now) }
+    ensures { Gives fault_told result (entry_of kept.now) }
 {
     match kept.kind {
         1 => read_edit(alloc, kept),

@@ -91,22 +91,56 @@ fn records(rt: HostRuntime) -> Result<(), Fail> {
     Ok(())
 }
 
+/// Keeps an edit.
+fn keep<S: Alter>(
+    alloc: Global,
+    keeper: &mut SqlKeeper<S>,
+    number: u64,
+    by: &str,
+    title: &str,
+    text: &str,
+) -> Result<(), Fail> {
+    let entry = edit(alloc, by, title, text)?;
+    Ok(keeper.append(number, &entry)?)
+}
+
+/// What is read of all that is kept.
+fn kept<S: Alter>(alloc: Global, keeper: &mut SqlKeeper<S>) -> Result<String, Fail> {
+    let entries = keeper.read_all()?;
+    told(alloc, entries.as_slice())
+}
+
+/// Whether reading fails.
+fn fails_to_read<S: Alter>(keeper: &mut SqlKeeper<S>) -> bool {
+    matches!(keeper.read_all(), Err(KeeperError::Failed))
+}
+
+/// Whether keeping an edit of this number fails.
+fn fails_to_keep<S: Alter>(
+    alloc: Global,
+    keeper: &mut SqlKeeper<S>,
+    number: u64,
+) -> Result<bool, Fail> {
+    let entry = edit(alloc, "Ann", "Talk", "x")?;
+    let answer = keeper.append(number, &entry);
+    Ok(matches!(answer, Err(KeeperError::Failed)))
+}
+
 /// What is read after two edits.
 fn two_edits<S: Alter>(alloc: Global, keeper: &mut SqlKeeper<S>) -> Result<String, Fail> {
-    keeper.append(1, &edit(alloc, "Root", "MediaWiki:Common.js", "one()")?)?;
-    keeper.append(2, &edit(alloc, "Ann", "User:Ann/common.js", "ann()")?)?;
-    told(alloc, keeper.read_all()?.as_slice())
+    keep(alloc, keeper, 1, "Root", "MediaWiki:Common.js", "one()")?;
+    keep(alloc, keeper, 2, "Ann", "User:Ann/common.js", "ann()")?;
+    kept(alloc, keeper)
 }
 
 const KEPT: &str = "Root:MediaWiki:Common.js=one();Ann:User:Ann/common.js=ann();";
 
 /// Whether each call fails, and is counted.
 fn always_fails<S: Alter>(alloc: Global, keeper: &mut SqlKeeper<S>) -> Result<bool, Fail> {
-    let entry = edit(alloc, "Ann", "Talk", "x")?;
     let before = keeper.fault_count() == 1;
-    let append = matches!(keeper.append(1, &entry), Err(KeeperError::Failed));
+    let append = fails_to_keep(alloc, keeper, 1)?;
     let counted = keeper.fault_count() == 2;
-    let read = matches!(keeper.read_all(), Err(KeeperError::Failed));
+    let read = fails_to_read(keeper);
     Ok(before && append && counted && read && keeper.fault_count() == 3)
 }
 
@@ -117,10 +151,9 @@ fn a_database_in_memory(rt: HostRuntime) -> Result<(), Fail> {
     assert_eq!(rt; keeper.fault_count(), 0);
     assert_eq!(rt; two_edits(alloc, &mut keeper)?.as_str(), KEPT);
     // A number that is taken.
-    let taken = keeper.append(2, &edit(alloc, "Ann", "Talk", "x")?);
-    assert!(rt; matches!(taken, Err(KeeperError::Failed)));
+    assert!(rt; fails_to_keep(alloc, &mut keeper, 2)?);
     assert_eq!(rt; keeper.fault_count(), 1);
-    assert_eq!(rt; told(alloc, keeper.read_all()?.as_slice())?.as_str(), KEPT);
+    assert_eq!(rt; kept(alloc, &mut keeper)?.as_str(), KEPT);
     Ok(())
 }
 
@@ -144,11 +177,11 @@ fn a_database_of_another_form(rt: HostRuntime) -> Result<(), Fail> {
 fn a_record_of_another_kind(rt: HostRuntime) -> Result<(), Fail> {
     let alloc = rt.alloc();
     let mut keeper = SqlKeeper::over(alloc, Connection::open_in_memory(alloc)?)?;
-    keeper.append(1, &edit(alloc, "Ann", "Talk", "x")?)?;
+    keep(alloc, &mut keeper, 1, "Ann", "Talk", "x")?;
     keeper
         .db
         .execute_batch("INSERT INTO entries VALUES (2, 9, x'', x'', x'');")?;
-    assert!(rt; matches!(keeper.read_all(), Err(KeeperError::Failed)));
+    assert!(rt; fails_to_read(&mut keeper));
     assert_eq!(rt; keeper.fault_count(), 1);
     Ok(())
 }
@@ -164,7 +197,7 @@ fn a_database_in_a_file(rt: HostRuntime) -> Result<(), Fail> {
     keeper.db.close()?;
     let mut again = SqlKeeper::over(alloc, Connection::open(&rt, FILE)?)?;
     assert_eq!(rt; again.fault_count(), 0);
-    assert_eq!(rt; told(alloc, again.read_all()?.as_slice())?.as_str(), KEPT);
+    assert_eq!(rt; kept(alloc, &mut again)?.as_str(), KEPT);
     again.db.close()?;
     let _ = fs::remove_file(&rt, FILE);
     Ok(())

@@ -13,7 +13,7 @@ use Rattle.rl_names.specs.declared.query.Only.TheVariants.{All}
 use Rattle.rl_wire.specs.Line.{wire_text, IsPart}
 use Rattle.rl_wire.specs.Reading.{answer_of as parts_said}
 use Rattle.rl_wire.proofs.LinesLemmas.{answers_say_parts}
-use Rattle.rl_defs.specs.Catalogue.{Catalogue}
+use Rattle.rl_build.specs.Sight.{Sight}
 use Rattle.rl_loadphp.specs.declared.answers.Answer.{Answer}
 use Rattle.rl_loadphp.specs.declared.answers.AnswerError.{AnswerError}
 use Rattle.rl_loadphp.specs.Answer.{answer_of, answer_to, answered, asked, sent}
@@ -39,36 +39,36 @@ unsent : (long : Bool) (e : Refusal) (a b : Answer) → cond long (Err e) (Ok a)
 unsent true e a b is = absurd (cc)
 unsent false e a b is = cc
 
-pub answer_made : (c : Catalogue) (bytes : List ℕ) (q : Query) (made : Answer) (r : Result Answer AnswerError) → asked bytes ≡ Ok q
-    → made ≡ answer_to c q → Gives refusal_told r (sent made) → IfOk r (λ (a : Answer). IsMadeOfPieces c (query_of bytes) a.body)
-answer_made c bytes q made (Err e) is is_made gives = tt
-answer_made c bytes q made (Ok a) is is_made gives =
-    let whole : a ≡ answer_to c q = unsent (nat_lt (limit_of AnswerBytes) (length made.body)) (AnswerTooLong (length made.body)) made a gives ∙ is_made in
-    let P : Answer → Type 0 = λ x. IsMadeOfPieces c q x.body in
-    let Q : Query → Type 0 = λ x. IsMadeOfPieces c x a.body in
-    subst Q (asked_is bytes q is) (subst P (sym whole) (body_made c q q.only))
+pub answer_made : (s : Sight) (bytes : List ℕ) (q : Query) (made : Answer) (r : Result Answer AnswerError) → asked bytes ≡ Ok q
+    → made ≡ answer_to s q → Gives refusal_told r (sent made) → IfOk r (λ (a : Answer). IsMadeOfPieces s (query_of bytes) a.body)
+answer_made s bytes q made (Err e) is is_made gives = tt
+answer_made s bytes q made (Ok a) is is_made gives =
+    let whole : a ≡ answer_to s q = unsent (nat_lt (limit_of AnswerBytes) (length made.body)) (AnswerTooLong (length made.body)) made a gives ∙ is_made in
+    let P : Answer → Type 0 = λ x. IsMadeOfPieces s q x.body in
+    let Q : Query → Type 0 = λ x. IsMadeOfPieces s x a.body in
+    subst Q (asked_is bytes q is) (subst P (sym whole) (body_made s q q.only))
 
 -- a body for everything is the text of the parts that are said
-says : (c : Catalogue) (q : Query) (a : Answer) → a ≡ answer_to c q
-    → (q.only ≡ All → AllByRecursion IsPart (parts_of c (query_context c q) (served c q) (missing c q))) → SaysParts q a.body
-says c q a is parts all =
-    let said = parts_of c (query_context c q) (served c q) (missing c q) in
+says : (s : Sight) (q : Query) (a : Answer) → a ≡ answer_to s q
+    → (q.only ≡ All → AllByRecursion IsPart (parts_of s (query_context s.catalogue q) (served s q) (missing s q))) → SaysParts q a.body
+says s q a is parts all =
+    let said = parts_of s (query_context s.catalogue q) (served s q) (missing s q) in
     let body : a.body ≡ wire_text said =
-    ap (λ (x : Answer). x.body) is ∙ ap (λ (o : Only). body_of c (query_context c q) o (served c q) (missing c q)) all in
+    ap (λ (x : Answer). x.body) is ∙ ap (λ (o : Only). body_of s (query_context s.catalogue q) o (served s q) (missing s q)) all in
     (said, parts all, body, ap parts_said body ∙ answers_say_parts.written said (parts all))
 
-pub answer_says : (c : Catalogue) (bytes : List ℕ) (q : Query) (made : Answer) (r : Result Answer AnswerError) → asked bytes ≡ Ok q
-    → made ≡ answer_to c q → (q.only ≡ All → AllByRecursion IsPart (parts_of c (query_context c q) (served c q) (missing c q)))
+pub answer_says : (s : Sight) (bytes : List ℕ) (q : Query) (made : Answer) (r : Result Answer AnswerError) → asked bytes ≡ Ok q
+    → made ≡ answer_to s q → (q.only ≡ All → AllByRecursion IsPart (parts_of s (query_context s.catalogue q) (served s q) (missing s q)))
     → Gives refusal_told r (sent made) → IfOk r (λ (a : Answer). SaysParts (query_of bytes) a.body)
-answer_says c bytes q made (Err e) is is_made parts gives = tt
-answer_says c bytes q made (Ok a) is is_made parts gives =
-    let whole : a ≡ answer_to c q = unsent (nat_lt (limit_of AnswerBytes) (length made.body)) (AnswerTooLong (length made.body)) made a gives ∙ is_made in
+answer_says s bytes q made (Err e) is is_made parts gives = tt
+answer_says s bytes q made (Ok a) is is_made parts gives =
+    let whole : a ≡ answer_to s q = unsent (nat_lt (limit_of AnswerBytes) (length made.body)) (AnswerTooLong (length made.body)) made a gives ∙ is_made in
     let Q : Query → Type 0 = λ x. SaysParts x a.body in
-    subst Q (asked_is bytes q is) (says c q a whole parts)
+    subst Q (asked_is bytes q is) (says s q a whole parts)
 
-pub answer_gives : (c : Catalogue) (bytes : List ℕ) (q : Query) (made : Answer) (r : Result Answer AnswerError) → asked bytes ≡ Ok q
-    → made ≡ answer_to c q → Gives refusal_told r (sent made) → Gives refusal_told r (answer_of c bytes)
-answer_gives c bytes q made r is is_made gives =
+pub answer_gives : (s : Sight) (bytes : List ℕ) (q : Query) (made : Answer) (r : Result Answer AnswerError) → asked bytes ≡ Ok q
+    → made ≡ answer_to s q → Gives refusal_told r (sent made) → Gives refusal_told r (answer_of s bytes)
+answer_gives s bytes q made r is is_made gives =
     let P : Answer → Type 0 = λ x. Gives refusal_told r (sent x) in
-    let Q : Result Query Refusal → Type 0 = λ x. Gives refusal_told r (answered c x) in
+    let Q : Result Query Refusal → Type 0 = λ x. Gives refusal_told r (answered s x) in
     subst Q (sym is) (subst P is_made gives)

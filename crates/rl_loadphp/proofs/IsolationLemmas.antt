@@ -12,15 +12,19 @@ use Rattle.rl_names.proofs.PackingLemmas.{distinct_kept}
 use Rattle.rl_wire.specs.Line.{wire_text}
 use Rattle.rl_defs.specs.Catalogue.{Catalogue, file_of, module_named}
 use Rattle.rl_defs.specs.declared.module_def.ModuleDef.{ModuleDef}
+use Rattle.rl_pages.specs.declared.entry.Entry.{Entry}
+use Rattle.rl_pages.specs.declared.viewer.Viewer.{Viewer}
+use Rattle.rl_pages.specs.Seen.{Shown, seen, shown}
 use Rattle.rl_build.specs.declared.context.Context.{Context}
 use Rattle.rl_build.specs.declared.payloads.Payload.{Payload}
 use Rattle.rl_build.specs.Context.{context_of}
+use Rattle.rl_build.specs.Sight.{Sight, sight}
 use Rattle.rl_build.specs.Sheet.{sheet_of_module}
 use Rattle.rl_build.specs.Payload.{file_lines, payload_of, payload_of_module, version_of}
-use Rattle.rl_loadphp.specs.Answer.{age_with, answer_to, answered, asked, sent}
+use Rattle.rl_loadphp.specs.Answer.{age_with, answer_of, answer_to, answered, asked, sent}
 use Rattle.rl_loadphp.specs.Refusal.{Refusal}
 use Rattle.rl_loadphp.specs.Body.{body_of, built, implementation_of, implementations, missing_part, states_text}
-use Rattle.rl_loadphp.specs.Isolation.{if_public, public_module, DifferInPrivate, PrivateIsUnseen}
+use Rattle.rl_loadphp.specs.Isolation.{if_public, public_module, AnswersAreSeen, DifferInPrivate, PrivateIsUnseen}
 use Rattle.rl_loadphp.specs.Served.{is_served, may_serve, missing, names_of, payloads, query_context, served}
 
 -- ---- lists
@@ -81,11 +85,14 @@ served_module user (Some m) h = served_public user m (bytes_eq m.group (codes "p
 
 -- ---- two catalogues
 
-module _ (c d : Catalogue) (alike : DifferInPrivate c d) where
+abbrev over : Shown → Catalogue → Sight
+over h c = record { catalogue = c; history = h }
+
+module _ (h : Shown) (c d : Catalogue) (alike : DifferInPrivate c d) where
   same_context : (lang skin : List ℕ) (debug : Bool) → context_of c lang skin debug ≡ context_of d lang skin debug
   same_context lang skin debug = rw (alike.languages, alike.skins) refl
 
-  same_served : (ctx : Context) (user name : List ℕ) → is_served c ctx user name ≡ is_served d ctx user name
+  same_served : (ctx : Context) (user name : List ℕ) → is_served (over h c) ctx user name ≡ is_served (over h d) ctx user name
   unfolding serves
   same_served ctx user name =
       serves_public user (module_named c name) ∙ ap (serves user) (alike.modules name) ∙ sym (serves_public user (module_named d name))
@@ -103,59 +110,72 @@ module _ (c d : Catalogue) (alike : DifferInPrivate c d) where
   brings name (Some m) is public is_too = ap Some (same_texts m (alike.files name m public))
 
   -- what is served brings the same
-  same_brought : (ctx : Context) (user name : List ℕ) → is_served c ctx user name ≡ true → payload_of c ctx name ≡ payload_of d ctx name
+  same_brought : (ctx : Context) (user name : List ℕ) → is_served (over h c) ctx user name ≡ true
+      → payload_of (over h c) ctx name ≡ payload_of (over h d) ctx name
   unfolding serves
-  same_brought ctx user name h =
-      let seen_c : public_module c name ≡ module_named c name = served_module user (module_named c name) h in
-      let seen_d : public_module d name ≡ module_named d name = served_module user (module_named d name) (sym (same_served ctx user name) ∙ h) in
+  same_brought ctx user name serves_it =
+      let seen_c : public_module c name ≡ module_named c name = served_module user (module_named c name) serves_it in
+      let seen_d : public_module d name ≡ module_named d name = served_module user (module_named d name) (sym (same_served ctx user name) ∙ serves_it) in
       let same : module_named d name ≡ module_named c name = sym seen_d ∙ sym (alike.modules name) ∙ seen_c in
       brings name (module_named c name) refl seen_c same ∙ ap (option_map (payload_of_module d)) (sym same)
 
-  module _ (ctx : Context) (names : List (List ℕ)) (brought : AllByRecursion (λ name. payload_of c ctx name ≡ payload_of d ctx name) names) where
-    same_payloads : payloads c ctx names ≡ payloads d ctx names
-    same_payloads = filter_map_same (payload_of c ctx) (payload_of d ctx) names brought
+  module _ (ctx : Context) (names : List (List ℕ))
+      (brought : AllByRecursion (λ name. payload_of (over h c) ctx name ≡ payload_of (over h d) ctx name) names) where
+    same_payloads : payloads (over h c) ctx names ≡ payloads (over h d) ctx names
+    same_payloads = filter_map_same (payload_of (over h c) ctx) (payload_of (over h d) ctx) names brought
 
-    same_implementations : implementations c ctx names ≡ implementations d ctx names
-    same_implementations = filter_map_same (implementation_of c ctx) (implementation_of d ctx) names
-        (all_map (λ name. payload_of c ctx name ≡ payload_of d ctx name) (λ name. implementation_of c ctx name ≡ implementation_of d ctx name) names
+    same_implementations : implementations (over h c) ctx names ≡ implementations (over h d) ctx names
+    same_implementations = filter_map_same (implementation_of (over h c) ctx) (implementation_of (over h d) ctx) names
+        (all_map (λ name. payload_of (over h c) ctx name ≡ payload_of (over h d) ctx name)
+        (λ name. implementation_of (over h c) ctx name ≡ implementation_of (over h d) ctx name) names
         (λ name e. ap (option_map (built name)) e) brought)
 
-    same_body : (only : Only) (others : List (List ℕ)) → body_of c ctx only names others ≡ body_of d ctx only names others
+    same_body : (only : Only) (others : List (List ℕ)) → body_of (over h c) ctx only names others ≡ body_of (over h d) ctx only names others
     same_body All others = ap (λ parts. wire_text (parts ++ map missing_part others)) same_implementations
     same_body Scripts others =
         ap (λ (ps : List Payload). flat_map (λ (p : Payload). p.script) ps ++ (states_text (codes "ready") names ++ states_text (codes "missing") others))
         same_payloads
     same_body Styles others = ap (λ (ps : List Payload). flat_map (λ (p : Payload). p.styles) ps) same_payloads
 
-  same_answer : (q : Query) → answer_to c q ≡ answer_to d q
+  same_answer : (q : Query) → answer_to (over h c) q ≡ answer_to (over h d) q
   same_answer q =
       let ctx = query_context c q in
       let contexts : ctx ≡ query_context d q = same_context q.lang q.skin q.debug in
-      let names = served c q in
-      let others = missing c q in
-      let kept : names ≡ served d q =
-      filter_same (is_served c ctx q.user) (is_served d ctx q.user) (names_of q) (same_served ctx q.user)
-      ∙ ap (λ x. filter (is_served d x q.user) (names_of q)) contexts in
-      let left : others ≡ missing d q =
-      filter_same (λ name. not (is_served c ctx q.user name)) (λ name. not (is_served d ctx q.user name)) (names_of q)
+      let names = served (over h c) q in
+      let others = missing (over h c) q in
+      let kept : names ≡ served (over h d) q =
+      filter_same (is_served (over h c) ctx q.user) (is_served (over h d) ctx q.user) (names_of q) (same_served ctx q.user)
+      ∙ ap (λ x. filter (is_served (over h d) x q.user) (names_of q)) contexts in
+      let left : others ≡ missing (over h d) q =
+      filter_same (λ name. not (is_served (over h c) ctx q.user name)) (λ name. not (is_served (over h d) ctx q.user name)) (names_of q)
       (λ name. ap not (same_served ctx q.user name))
-      ∙ ap (λ x. filter (λ name. not (is_served d x q.user name)) (names_of q)) contexts in
-      let brought = kept_pass (λ name. payload_of c ctx name ≡ payload_of d ctx name) (is_served c ctx q.user) (names_of q) (same_brought ctx q.user) in
-      let body : body_of c ctx q.only names others ≡ body_of d (query_context d q) q.only (served d q) (missing d q) =
+      ∙ ap (λ x. filter (λ name. not (is_served (over h d) x q.user name)) (names_of q)) contexts in
+      let brought = kept_pass (λ name. payload_of (over h c) ctx name ≡ payload_of (over h d) ctx name)
+      (is_served (over h c) ctx q.user) (names_of q) (same_brought ctx q.user) in
+      let body : body_of (over h c) ctx q.only names others ≡ body_of (over h d) (query_context d q) q.only (served (over h d) q) (missing (over h d) q) =
       same_body ctx names brought q.only others
-      ∙ ap (λ x. body_of d x q.only names others) contexts
-      ∙ ap (λ ns. body_of d (query_context d q) q.only ns others) kept
-      ∙ ap (body_of d (query_context d q) q.only (served d q)) left in
-      let age : age_with q.version (map version_of (payloads c ctx names))
-      ≡ age_with q.version (map version_of (payloads d (query_context d q) (served d q))) =
+      ∙ ap (λ x. body_of (over h d) x q.only names others) contexts
+      ∙ ap (λ ns. body_of (over h d) (query_context d q) q.only ns others) kept
+      ∙ ap (body_of (over h d) (query_context d q) q.only (served (over h d) q)) left in
+      let age : age_with q.version (map version_of (payloads (over h c) ctx names))
+      ≡ age_with q.version (map version_of (payloads (over h d) (query_context d q) (served (over h d) q))) =
       ap (λ ps. age_with q.version (map version_of ps)) (same_payloads ctx names brought)
-      ∙ ap (λ x. age_with q.version (map version_of (payloads d x names))) contexts
-      ∙ ap (λ ns. age_with q.version (map version_of (payloads d (query_context d q) ns))) kept in
+      ∙ ap (λ x. age_with q.version (map version_of (payloads (over h d) x names))) contexts
+      ∙ ap (λ ns. age_with q.version (map version_of (payloads (over h d) (query_context d q) ns))) kept in
       rw (body, age) refl
 
-  same_answered : (r : Result Query Refusal) → answered c r ≡ answered d r
+  same_answered : (r : Result Query Refusal) → answered (over h c) r ≡ answered (over h d) r
   same_answered (Ok q) = ap sent (same_answer q)
   same_answered (Err refusal) = refl
 
 pub private_is_unseen : PrivateIsUnseen
-private_is_unseen c d alike query = same_answered c d alike (asked query)
+private_is_unseen c d alike entries viewer query = same_answered (shown entries viewer) c d alike (asked query)
+
+-- ---- two histories
+
+as_shown : Viewer → List Entry → Shown
+as_shown viewer entries = record { viewer = viewer; entries = entries }
+
+pub answers_are_seen : AnswersAreSeen
+unfolding as_shown
+answers_are_seen c entries others viewer same query = ap (λ (es : List Entry). answer_of (over (as_shown viewer es) c) query) same

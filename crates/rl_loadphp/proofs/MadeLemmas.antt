@@ -9,9 +9,9 @@ use Rattle.std.proofs.lemmas.List.Folds.{flat_map-map}
 use Rattle.rl_wire.specs.declared.part.Part.{Part}
 use Rattle.rl_wire.specs.Line.{line, part_text, implement_text, wire_text}
 use Rattle.rl_names.specs.declared.part.Message.{Message}
-use Rattle.rl_defs.specs.Catalogue.{Catalogue}
 use Rattle.rl_build.specs.declared.context.Context.{Context}
 use Rattle.rl_build.specs.declared.payloads.Payload.{Payload}
+use Rattle.rl_build.specs.Sight.{Sight}
 use Rattle.rl_build.specs.Payload.{payload_of, version_of}
 use Rattle.rl_loadphp.specs.Served.{payloads}
 use Rattle.rl_loadphp.specs.Body.{built, implementations, missing_part, states_text, scripts_text, styles_text}
@@ -41,39 +41,39 @@ styles_first (Some p) ps = refl
 
 -- ---- all names
 
-pub wire-implementations : (c : Catalogue) (ctx : Context) (names : List (List ℕ)) →
-    wire_text (implementations c ctx names) ≡ flat_map (line_of c ctx) names
-wire-implementations c ctx [] = refl
-wire-implementations c ctx (name ∷ names) =
-    built_first (payload_of c ctx name) name (implementations c ctx names)
-    ∙ ap (λ text. line_of c ctx name ++ text) (wire-implementations c ctx names)
+pub wire-implementations : (s : Sight) (ctx : Context) (names : List (List ℕ)) →
+    wire_text (implementations s ctx names) ≡ flat_map (line_of s ctx) names
+wire-implementations s ctx [] = refl
+wire-implementations s ctx (name ∷ names) =
+    built_first (payload_of s ctx name) name (implementations s ctx names)
+    ∙ ap (λ text. line_of s ctx name ++ text) (wire-implementations s ctx names)
 
-pub versions-payloads : (c : Catalogue) (ctx : Context) (names : List (List ℕ)) →
-    map version_of (payloads c ctx names) ≡ flat_map (version_in c ctx) names
-versions-payloads c ctx [] = refl
-versions-payloads c ctx (name ∷ names) =
-    version_first (payload_of c ctx name) (payloads c ctx names)
-    ∙ ap (λ versions. version_in c ctx name ++ versions) (versions-payloads c ctx names)
+pub versions-payloads : (s : Sight) (ctx : Context) (names : List (List ℕ)) →
+    map version_of (payloads s ctx names) ≡ flat_map (version_in s ctx) names
+versions-payloads s ctx [] = refl
+versions-payloads s ctx (name ∷ names) =
+    version_first (payload_of s ctx name) (payloads s ctx names)
+    ∙ ap (λ versions. version_in s ctx name ++ versions) (versions-payloads s ctx names)
 
-pub scripts-payloads : (c : Catalogue) (ctx : Context) (names : List (List ℕ)) → scripts_text c ctx names ≡ flat_map (script_of c ctx) names
-scripts-payloads c ctx [] = refl
-scripts-payloads c ctx (name ∷ names) =
-    script_first (payload_of c ctx name) (payloads c ctx names)
-    ∙ ap (λ text. script_of c ctx name ++ text) (scripts-payloads c ctx names)
+pub scripts-payloads : (s : Sight) (ctx : Context) (names : List (List ℕ)) → scripts_text s ctx names ≡ flat_map (script_of s ctx) names
+scripts-payloads s ctx [] = refl
+scripts-payloads s ctx (name ∷ names) =
+    script_first (payload_of s ctx name) (payloads s ctx names)
+    ∙ ap (λ text. script_of s ctx name ++ text) (scripts-payloads s ctx names)
 
-pub styles-payloads : (c : Catalogue) (ctx : Context) (names : List (List ℕ)) → styles_text c ctx names ≡ flat_map (styles_of c ctx) names
-styles-payloads c ctx [] = refl
-styles-payloads c ctx (name ∷ names) =
-    styles_first (payload_of c ctx name) (payloads c ctx names)
-    ∙ ap (λ text. styles_of c ctx name ++ text) (styles-payloads c ctx names)
+pub styles-payloads : (s : Sight) (ctx : Context) (names : List (List ℕ)) → styles_text s ctx names ≡ flat_map (styles_of s ctx) names
+styles-payloads s ctx [] = refl
+styles-payloads s ctx (name ∷ names) =
+    styles_first (payload_of s ctx name) (payloads s ctx names)
+    ∙ ap (λ text. styles_of s ctx name ++ text) (styles-payloads s ctx names)
 
 -- the states of missing names are their parts
-pub wire-missing : (c : Catalogue) (ctx : Context) (served missing : List (List ℕ))
-    → wire_text (implementations c ctx served ++ map missing_part missing) ≡ flat_map (line_of c ctx) served ++ states_text (codes "missing") missing
-wire-missing c ctx served missing =
-    flat_map-append (λ (part : Part). line (part_text part)) (implementations c ctx served) (map missing_part missing)
-    ∙ ap (λ text. text ++ wire_text (map missing_part missing)) (wire-implementations c ctx served)
-    ∙ ap (λ text. flat_map (line_of c ctx) served ++ text) (flat_map-map (λ (part : Part). line (part_text part)) missing_part missing)
+pub wire-missing : (s : Sight) (ctx : Context) (served missing : List (List ℕ))
+    → wire_text (implementations s ctx served ++ map missing_part missing) ≡ flat_map (line_of s ctx) served ++ states_text (codes "missing") missing
+wire-missing s ctx served missing =
+    flat_map-append (λ (part : Part). line (part_text part)) (implementations s ctx served) (map missing_part missing)
+    ∙ ap (λ text. text ++ wire_text (map missing_part missing)) (wire-implementations s ctx served)
+    ∙ ap (λ text. flat_map (line_of s ctx) served ++ text) (flat_map-map (λ (part : Part). line (part_text part)) missing_part missing)
 
 -- ---- a loop over names
 
@@ -91,10 +91,9 @@ all_made f now items names i same done is = is ∙ ap (flat_map f) (take_all i i
 -- ---- one module
 
 -- the line of what a name brings
-pub line_built : (old new : List ℕ) (o : Option Payload) (name : List ℕ) (p : Payload) (version script styles : List ℕ) (messages : List Message)
-    → o ≡ Some p → version ≡ version_of p → script ≡ p.script → styles ≡ p.styles → messages ≡ p.messages →
-    new ≡ old ++ line (implement_text name version script styles messages)
+pub line_built : (old new : List ℕ) (o : Option Payload) (name : List ℕ) (p : Payload) (version : List ℕ) → o ≡ Some p → version ≡ version_of p
+    → new ≡ old ++ line (implement_text name version p.script p.styles p.messages)
     → new ≡ old ++ option_map_or (λ (p : Payload). line (part_text (built name p))) o []
-line_built old new o name p version script styles messages brought hashed of_script of_styles of_messages is =
+line_built old new o name p version brought hashed is =
     let Owed : Option Payload → Type 0 = λ o. new ≡ old ++ option_map_or (λ (p : Payload). line (part_text (built name p))) o [] in
-    subst Owed (sym brought) (is ∙ rw (hashed, of_script, of_styles, of_messages) refl)
+    subst Owed (sym brought) (is ∙ rw hashed refl)

@@ -5,9 +5,9 @@ use Rattle.std.specs.List.{AllByRecursion, filter_map, cons_option}
 use Rattle.rl_names.specs.Name.{is_version}
 use Rattle.rl_wire.specs.Line.{IsPart}
 use Rattle.rl_wire.proofs.EveryLemmas.{none_left}
-use Rattle.rl_defs.specs.Catalogue.{Catalogue}
 use Rattle.rl_build.specs.declared.context.Context.{Context}
 use Rattle.rl_build.specs.declared.payloads.Payload.{Payload}
+use Rattle.rl_build.specs.Sight.{Sight}
 use Rattle.rl_build.specs.Payload.{version_of, IsBrought}
 use Rattle.rl_loadphp.specs.Body.{built, implementation_of, missing_part, parts_of}
 
@@ -40,24 +40,24 @@ states [] all = tt
 states (name ∷ names) all = (all.0, states names all.1)
 
 -- behind a loop over the served names
-pub all_parts : (c : Catalogue) (ctx : Context) (items served others missing : List (List ℕ)) (i : ℕ) → items ≡ served → others ≡ missing →
+pub all_parts : (s : Sight) (ctx : Context) (items served others missing : List (List ℕ)) (i : ℕ) → items ≡ served → others ≡ missing →
     length items ≤ i
-    → (AllByRecursion (λ (name : List ℕ). IfSome (implementation_of c ctx name) IsPart) (drop i items)
-    → AllByRecursion (λ (name : List ℕ). IfSome (implementation_of c ctx name) IsPart) items)
-    → AllByRecursion IsUtf8 others → AllByRecursion IsPart (parts_of c ctx served missing)
-all_parts c ctx items served others missing i same same_too end all utf8 =
-    let P : List ℕ → Type 0 = λ name. IfSome (implementation_of c ctx name) IsPart in
+    → (AllByRecursion (λ (name : List ℕ). IfSome (implementation_of s ctx name) IsPart) (drop i items)
+    → AllByRecursion (λ (name : List ℕ). IfSome (implementation_of s ctx name) IsPart) items)
+    → AllByRecursion IsUtf8 others → AllByRecursion IsPart (parts_of s ctx served missing)
+all_parts s ctx items served others missing i same same_too end all utf8 =
+    let P : List ℕ → Type 0 = λ name. IfSome (implementation_of s ctx name) IsPart in
     let each : AllByRecursion P served = subst (AllByRecursion P) same (all (none_left P items i end)) in
-    both IsPart (filter_map (implementation_of c ctx) served) (map missing_part missing) (each_some IsPart (implementation_of c ctx) served each)
+    both IsPart (filter_map (implementation_of s ctx) served) (map missing_part missing) (each_some IsPart (implementation_of s ctx) served each)
     (states missing (subst (AllByRecursion IsUtf8) same_too utf8))
 
-pub same_parts : (c : Catalogue) (ctx of_ctx : Context) (served of_served missing of_missing : List (List ℕ)) → ctx ≡ of_ctx → served ≡ of_served →
+pub same_parts : (s : Sight) (ctx of_ctx : Context) (served of_served missing of_missing : List (List ℕ)) → ctx ≡ of_ctx → served ≡ of_served →
     missing ≡ of_missing
-    → AllByRecursion IsPart (parts_of c ctx served missing) → AllByRecursion IsPart (parts_of c of_ctx of_served of_missing)
-same_parts c ctx of_ctx served of_served missing of_missing a b e parts =
-    let P : Context → Type 0 = λ x. AllByRecursion IsPart (parts_of c x served missing) in
-    let Q : List (List ℕ) → Type 0 = λ ns. AllByRecursion IsPart (parts_of c of_ctx ns missing) in
-    let R : List (List ℕ) → Type 0 = λ ns. AllByRecursion IsPart (parts_of c of_ctx of_served ns) in
+    → AllByRecursion IsPart (parts_of s ctx served missing) → AllByRecursion IsPart (parts_of s of_ctx of_served of_missing)
+same_parts s ctx of_ctx served of_served missing of_missing a b e parts =
+    let P : Context → Type 0 = λ x. AllByRecursion IsPart (parts_of s x served missing) in
+    let Q : List (List ℕ) → Type 0 = λ ns. AllByRecursion IsPart (parts_of s of_ctx ns missing) in
+    let R : List (List ℕ) → Type 0 = λ ns. AllByRecursion IsPart (parts_of s of_ctx of_served ns) in
     subst R e (subst Q b (subst P a parts))
 
 -- what holds of one element and of those behind it

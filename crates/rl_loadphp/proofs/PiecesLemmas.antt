@@ -12,9 +12,9 @@ use Rattle.rl_names.specs.declared.query.Query.{Query}
 use Rattle.rl_names.specs.declared.query.Only.{Only}
 use Rattle.rl_names.specs.declared.query.Only.TheVariants.{All, Scripts, Styles}
 use Rattle.rl_wire.specs.Line.{line, part_text, state_text}
-use Rattle.rl_defs.specs.Catalogue.{Catalogue}
 use Rattle.rl_build.specs.declared.sheets.Sheet.{Sheet}
 use Rattle.rl_build.specs.declared.payloads.Payload.{Payload}
+use Rattle.rl_build.specs.Sight.{Sight}
 use Rattle.rl_build.specs.Sheet.{sheet_of}
 use Rattle.rl_build.specs.Payload.{payload_of}
 use Rattle.rl_loadphp.specs.Served.{names_of, query_context, may_serve, is_served, served, missing}
@@ -29,25 +29,25 @@ both : {X : Type 0} (P : X → Type 0) (xs ys : List X) → AllByRecursion P xs 
 both P [] ys a b = b
 both P (x ∷ xs) ys a b = (a.0, both P xs ys a.1 b)
 
-nothing_made : (c : Catalogue) (q : Query) → IsMadeOfPieces c q []
-nothing_made c q = ([], refl, tt)
+nothing_made : (s : Sight) (q : Query) → IsMadeOfPieces s q []
+nothing_made s q = ([], refl, tt)
 
-one_made : (c : Catalogue) (q : Query) (text : List ℕ) → Piece c q text → IsMadeOfPieces c q text
-one_made c q text piece = (text ∷ [], sym (append-nil text), (piece, tt))
+one_made : (s : Sight) (q : Query) (text : List ℕ) → Piece s q text → IsMadeOfPieces s q text
+one_made s q text piece = (text ∷ [], sym (append-nil text), (piece, tt))
 
-both_made : (c : Catalogue) (q : Query) (a b : List ℕ) → IsMadeOfPieces c q a → IsMadeOfPieces c q b → IsMadeOfPieces c q (a ++ b)
-both_made c q a b (ps, whole, all) (qs, rest, others) = (
+both_made : (s : Sight) (q : Query) (a b : List ℕ) → IsMadeOfPieces s q a → IsMadeOfPieces s q b → IsMadeOfPieces s q (a ++ b)
+both_made s q a b (ps, whole, all) (qs, rest, others) = (
   ps ++ qs,
   ap (λ t. t ++ b) whole ∙ ap (λ t. flat_map (λ (piece : List ℕ). piece) ps ++ t) rest ∙ sym (flat_map-append (λ (piece : List ℕ). piece) ps qs),
-  both (Piece c q) ps qs all others,
+  both (Piece s q) ps qs all others,
 )
 
-each_made : (c : Catalogue) (q : Query) (P : List ℕ → Type 0) (text_of : List ℕ → List ℕ) →
-    ((name : List ℕ) → P name → IsMadeOfPieces c q (text_of name))
-    → (names : List (List ℕ)) → AllByRecursion P names → IsMadeOfPieces c q (flat_map text_of names)
-each_made c q P text_of one [] all = nothing_made c q
-each_made c q P text_of one (name ∷ names) all = both_made c q (text_of name) (flat_map text_of names) (one name all.0)
-    (each_made c q P text_of one names all.1)
+each_made : (s : Sight) (q : Query) (P : List ℕ → Type 0) (text_of : List ℕ → List ℕ) →
+    ((name : List ℕ) → P name → IsMadeOfPieces s q (text_of name))
+    → (names : List (List ℕ)) → AllByRecursion P names → IsMadeOfPieces s q (flat_map text_of names)
+each_made s q P text_of one [] all = nothing_made s q
+each_made s q P text_of one (name ∷ names) all = both_made s q (text_of name) (flat_map text_of names) (one name all.0)
+    (each_made s q P text_of one names all.1)
 
 -- ---- names that are asked for
 
@@ -87,58 +87,58 @@ nobody (b ∷ bs) own h k =
     let some : nat_lt 0 (length (b ∷ bs)) ≡ true = grind (arith, nat_tests) in
     absurd (not_both (own && nat_lt 0 (length (b ∷ bs))) h (rw (k, some) refl))
 
-may_send : (c : Catalogue) (q : Query) (name : List ℕ) (p : Payload) (o : Option Sheet) → sheet_of c (query_context c q) name ≡ o →
+may_send : (s : Sight) (q : Query) (name : List ℕ) (p : Payload) (o : Option Sheet) → sheet_of s (query_context s.catalogue q) name ≡ o →
     option_map_or (may_serve q.user) o false ≡ true
-    → IsAsked q name → payload_of c (query_context c q) name ≡ Some p → MaySend c q name p
+    → IsAsked q name → payload_of s (query_context s.catalogue q) name ≡ Some p → MaySend s q name p
 unfolding IsAsked
-may_send c q name p None e served asked brings = absurd (cc)
-may_send c q name p (Some s) e served asked brings =
-    let whole = and_parts (not (bytes_eq s.group (codes "private")) && bytes_eq s.source (codes "local"))
-    (not (bytes_eq s.group (codes "user") && nat_lt 0 (length q.user))) served in
-    let front = and_parts (not (bytes_eq s.group (codes "private"))) (bytes_eq s.source (codes "local")) whole.0 in
+may_send s q name p None e served asked brings = absurd (cc)
+may_send s q name p (Some sheet) e served asked brings =
+    let whole = and_parts (not (bytes_eq sheet.group (codes "private")) && bytes_eq sheet.source (codes "local"))
+    (not (bytes_eq sheet.group (codes "user") && nat_lt 0 (length q.user))) served in
+    let front = and_parts (not (bytes_eq sheet.group (codes "private"))) (bytes_eq sheet.source (codes "local")) whole.0 in
     record {
       asked = asked;
-      sheet = s;
+      sheet = sheet;
       known = e;
-      public = λ is. not_both (bytes_eq s.group (codes "private")) front.0 ((bytes_eq-Decides s.group (codes "private")).1 is);
-      here = (bytes_eq-Decides s.source (codes "local")).0 front.1;
-      own = λ is. nobody q.user (bytes_eq s.group (codes "user")) whole.1 ((bytes_eq-Decides s.group (codes "user")).1 is);
+      public = λ is. not_both (bytes_eq sheet.group (codes "private")) front.0 ((bytes_eq-Decides sheet.group (codes "private")).1 is);
+      here = (bytes_eq-Decides sheet.source (codes "local")).0 front.1;
+      own = λ is. nobody q.user (bytes_eq sheet.group (codes "user")) whole.1 ((bytes_eq-Decides sheet.group (codes "user")).1 is);
       brings = brings;
     }
 
 -- ---- what names bring
 
-IsSent : Catalogue → Query → List ℕ → Type 0
-IsSent c q name = IsAsked q name × (is_served c (query_context c q) q.user name ≡ true)
+IsSent : Sight → Query → List ℕ → Type 0
+IsSent s q name = IsAsked q name × (is_served s (query_context s.catalogue q) q.user name ≡ true)
 
-brought : (c : Catalogue) (q : Query) (make : Payload → List ℕ) (name : List ℕ) → ((p : Payload) → MaySend c q name p → Piece c q (make p))
-    → IsSent c q name → (o : Option Payload) → payload_of c (query_context c q) name ≡ o → IsMadeOfPieces c q (option_map_or make o [])
+brought : (s : Sight) (q : Query) (make : Payload → List ℕ) (name : List ℕ) → ((p : Payload) → MaySend s q name p → Piece s q (make p))
+    → IsSent s q name → (o : Option Payload) → payload_of s (query_context s.catalogue q) name ≡ o → IsMadeOfPieces s q (option_map_or make o [])
 unfolding IsSent
-brought c q make name piece sent None e = nothing_made c q
-brought c q make name piece sent (Some p) e =
-    one_made c q (make p) (piece p (may_send c q name p (sheet_of c (query_context c q) name) refl sent.1 sent.0 e))
+brought s q make name piece sent None e = nothing_made s q
+brought s q make name piece sent (Some p) e =
+    one_made s q (make p) (piece p (may_send s q name p (sheet_of s (query_context s.catalogue q) name) refl sent.1 sent.0 e))
 
-lines_made : (c : Catalogue) (q : Query) (names : List (List ℕ)) → AllByRecursion (IsSent c q) names →
-    IsMadeOfPieces c q (flat_map (line_of c (query_context c q)) names)
-lines_made c q = each_made c q (IsSent c q) (line_of c (query_context c q))
-    (λ name sent. brought c q (λ (p : Payload). line (part_text (built name p))) name (λ p may. implementation name p may) sent
-    (payload_of c (query_context c q) name) refl)
+lines_made : (s : Sight) (q : Query) (names : List (List ℕ)) → AllByRecursion (IsSent s q) names →
+    IsMadeOfPieces s q (flat_map (line_of s (query_context s.catalogue q)) names)
+lines_made s q = each_made s q (IsSent s q) (line_of s (query_context s.catalogue q))
+    (λ name sent. brought s q (λ (p : Payload). line (part_text (built name p))) name (λ p may. implementation name p may) sent
+    (payload_of s (query_context s.catalogue q) name) refl)
 
-scripts_made : (c : Catalogue) (q : Query) (names : List (List ℕ)) → AllByRecursion (IsSent c q) names →
-    IsMadeOfPieces c q (flat_map (script_of c (query_context c q)) names)
-scripts_made c q = each_made c q (IsSent c q) (script_of c (query_context c q))
-    (λ name sent. brought c q (λ (p : Payload). p.script) name (λ p may. script name p may) sent (payload_of c (query_context c q) name) refl)
+scripts_made : (s : Sight) (q : Query) (names : List (List ℕ)) → AllByRecursion (IsSent s q) names →
+    IsMadeOfPieces s q (flat_map (script_of s (query_context s.catalogue q)) names)
+scripts_made s q = each_made s q (IsSent s q) (script_of s (query_context s.catalogue q))
+    (λ name sent. brought s q (λ (p : Payload). p.script) name (λ p may. script name p may) sent (payload_of s (query_context s.catalogue q) name) refl)
 
-styles_made : (c : Catalogue) (q : Query) (names : List (List ℕ)) → AllByRecursion (IsSent c q) names →
-    IsMadeOfPieces c q (flat_map (styles_of c (query_context c q)) names)
-styles_made c q = each_made c q (IsSent c q) (styles_of c (query_context c q))
-    (λ name sent. brought c q (λ (p : Payload). p.styles) name (λ p may. styles name p may) sent (payload_of c (query_context c q) name) refl)
+styles_made : (s : Sight) (q : Query) (names : List (List ℕ)) → AllByRecursion (IsSent s q) names →
+    IsMadeOfPieces s q (flat_map (styles_of s (query_context s.catalogue q)) names)
+styles_made s q = each_made s q (IsSent s q) (styles_of s (query_context s.catalogue q))
+    (λ name sent. brought s q (λ (p : Payload). p.styles) name (λ p may. styles name p may) sent (payload_of s (query_context s.catalogue q) name) refl)
 
-states_made : (c : Catalogue) (q : Query) (word : List ℕ) → Contains (codes "ready" ∷ codes "missing" ∷ []) word
-    → (names : List (List ℕ)) → AllByRecursion (IsAsked q) names → IsMadeOfPieces c q (states_text word names)
+states_made : (s : Sight) (q : Query) (word : List ℕ) → Contains (codes "ready" ∷ codes "missing" ∷ []) word
+    → (names : List (List ℕ)) → AllByRecursion (IsAsked q) names → IsMadeOfPieces s q (states_text word names)
 unfolding IsAsked
-states_made c q word known = each_made c q (Contains (names_of q)) (λ (name : List ℕ). line (state_text name word))
-    (λ name asked. one_made c q (line (state_text name word)) (state name word asked known))
+states_made s q word known = each_made s q (Contains (names_of q)) (λ (name : List ℕ). line (state_text name word))
+    (λ name asked. one_made s q (line (state_text name word)) (state name word asked known))
 
 -- ---- the body
 
@@ -146,34 +146,35 @@ all_asked : (q : Query) → AllByRecursion (IsAsked q) (names_of q)
 unfolding IsAsked
 all_asked q = contains_all (names_of q) (names_of q) (λ name h. h)
 
-served_sent : (c : Catalogue) (q : Query) → AllByRecursion (IsSent c q) (served c q)
+served_sent : (s : Sight) (q : Query) → AllByRecursion (IsSent s q) (served s q)
 unfolding IsSent
-served_sent c q = kept (IsAsked q) (is_served c (query_context c q) q.user) (names_of q) (all_asked q)
+served_sent s q = kept (IsAsked q) (is_served s (query_context s.catalogue q) q.user) (names_of q) (all_asked q)
 
-served_asked : (c : Catalogue) (q : Query) → AllByRecursion (IsAsked q) (served c q)
+served_asked : (s : Sight) (q : Query) → AllByRecursion (IsAsked q) (served s q)
 unfolding IsSent
-served_asked c q = first_parts (IsAsked q) (λ (name : List ℕ). is_served c (query_context c q) q.user name ≡ true) (served c q) (served_sent c q)
+served_asked s q = first_parts (IsAsked q) (λ (name : List ℕ). is_served s (query_context s.catalogue q) q.user name ≡ true) (served s q) (served_sent s q)
 
-missing_asked : (c : Catalogue) (q : Query) → AllByRecursion (IsAsked q) (missing c q)
-missing_asked c q =
-    first_parts (IsAsked q) (λ (name : List ℕ). not (is_served c (query_context c q) q.user name) ≡ true) (missing c q)
-    (kept (IsAsked q) (λ (name : List ℕ). not (is_served c (query_context c q) q.user name)) (names_of q) (all_asked q))
+missing_asked : (s : Sight) (q : Query) → AllByRecursion (IsAsked q) (missing s q)
+missing_asked s q =
+    first_parts (IsAsked q) (λ (name : List ℕ). not (is_served s (query_context s.catalogue q) q.user name) ≡ true) (missing s q)
+    (kept (IsAsked q) (λ (name : List ℕ). not (is_served s (query_context s.catalogue q) q.user name)) (names_of q) (all_asked q))
 
-missing_made : (c : Catalogue) (q : Query) → IsMadeOfPieces c q (states_text (codes "missing") (missing c q))
-missing_made c q = states_made c q (codes "missing") (1, omega arith, refl) (missing c q) (missing_asked c q)
+missing_made : (s : Sight) (q : Query) → IsMadeOfPieces s q (states_text (codes "missing") (missing s q))
+missing_made s q = states_made s q (codes "missing") (1, omega arith, refl) (missing s q) (missing_asked s q)
 
-pub body_made : (c : Catalogue) (q : Query) (only : Only) → IsMadeOfPieces c q (body_of c (query_context c q) only (served c q) (missing c q))
-body_made c q All =
-    let Made : List ℕ → Type 0 = λ text. IsMadeOfPieces c q text in
-    subst Made (sym (wire-missing c (query_context c q) (served c q) (missing c q)))
-    (both_made c q (flat_map (line_of c (query_context c q)) (served c q)) (states_text (codes "missing") (missing c q))
-    (lines_made c q (served c q) (served_sent c q)) (missing_made c q))
-body_made c q Scripts =
-    let Made : List ℕ → Type 0 = λ text. IsMadeOfPieces c q text in
-    let states = both_made c q (states_text (codes "ready") (served c q)) (states_text (codes "missing") (missing c q))
-    (states_made c q (codes "ready") (0, omega arith, refl) (served c q) (served_asked c q)) (missing_made c q) in
-    both_made c q (scripts_text c (query_context c q) (served c q)) (states_text (codes "ready") (served c q) ++ states_text (codes "missing") (missing c q))
-    (subst Made (sym (scripts-payloads c (query_context c q) (served c q))) (scripts_made c q (served c q) (served_sent c q))) states
-body_made c q Styles =
-    let Made : List ℕ → Type 0 = λ text. IsMadeOfPieces c q text in
-    subst Made (sym (styles-payloads c (query_context c q) (served c q))) (styles_made c q (served c q) (served_sent c q))
+pub body_made : (s : Sight) (q : Query) (only : Only) → IsMadeOfPieces s q (body_of s (query_context s.catalogue q) only (served s q) (missing s q))
+body_made s q All =
+    let Made : List ℕ → Type 0 = λ text. IsMadeOfPieces s q text in
+    subst Made (sym (wire-missing s (query_context s.catalogue q) (served s q) (missing s q)))
+    (both_made s q (flat_map (line_of s (query_context s.catalogue q)) (served s q)) (states_text (codes "missing") (missing s q))
+    (lines_made s q (served s q) (served_sent s q)) (missing_made s q))
+body_made s q Scripts =
+    let Made : List ℕ → Type 0 = λ text. IsMadeOfPieces s q text in
+    let states = both_made s q (states_text (codes "ready") (served s q)) (states_text (codes "missing") (missing s q))
+    (states_made s q (codes "ready") (0, omega arith, refl) (served s q) (served_asked s q)) (missing_made s q) in
+    both_made s q (scripts_text s (query_context s.catalogue q) (served s q))
+    (states_text (codes "ready") (served s q) ++ states_text (codes "missing") (missing s q))
+    (subst Made (sym (scripts-payloads s (query_context s.catalogue q) (served s q))) (scripts_made s q (served s q) (served_sent s q))) states
+body_made s q Styles =
+    let Made : List ℕ → Type 0 = λ text. IsMadeOfPieces s q text in
+    subst Made (sym (styles-payloads s (query_context s.catalogue q) (served s q))) (styles_made s q (served s q) (served_sent s q))

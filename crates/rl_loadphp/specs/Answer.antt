@@ -9,7 +9,7 @@ use Rattle.rl_names.specs.declared.query.Query.{Query}
 use Rattle.rl_names.specs.declared.query.Only.{Only}
 use Rattle.rl_names.specs.declared.query.Only.TheVariants.{All, Scripts, Styles}
 use Rattle.rl_names.specs.Query.{query_of}
-use Rattle.rl_defs.specs.Catalogue.{Catalogue}
+use Rattle.rl_build.specs.Sight.{Sight}
 use Rattle.rl_build.specs.Payload.{version_of}
 use Rattle.rl_loadphp.specs.declared.answers.Kind.{Kind}
 use Rattle.rl_loadphp.specs.declared.answers.Kind.TheVariants.{Script, Style}
@@ -24,23 +24,23 @@ kind_of Scripts = Script
 kind_of Styles = Style
 
 -- the versions of what is served, in the order in which it is served
-abbrev pub served_versions : Catalogue → Query → List (List ℕ)
-served_versions c q = map version_of (payloads c (query_context c q) (served c q))
+abbrev pub served_versions : Sight → Query → List (List ℕ)
+served_versions s q = map version_of (payloads s (query_context s.catalogue q) (served s q))
 
 -- for how many seconds an answer with these versions may be kept: 30 days where the query tells their combined version,
 -- and else 5 minutes
 abbrev pub age_with : List ℕ → List (List ℕ) → ℕ
 age_with told versions = if nat_lt 0 (length told) && bytes_eq told (combined versions) then 2592000 else 300
 
-abbrev pub age_of : Catalogue → Query → ℕ
-age_of c q = age_with q.version (served_versions c q)
+abbrev pub age_of : Sight → Query → ℕ
+age_of s q = age_with q.version (served_versions s q)
 
 -- an answer is private where the query names a user
-abbrev pub answer_to : Catalogue → Query → Answer
-answer_to c q = record {
-  body = body_of c (query_context c q) q.only (served c q) (missing c q);
+abbrev pub answer_to : Sight → Query → Answer
+answer_to s q = record {
+  body = body_of s (query_context s.catalogue q) q.only (served s q) (missing s q);
   kind = kind_of q.only;
-  max_age = age_of c q;
+  max_age = age_of s q;
   private = nat_lt 0 (length q.user);
 }
 
@@ -61,10 +61,10 @@ abbrev pub sent : Answer → Result Answer Refusal
 sent a = if are_too_many AnswerBytes (length a.body) then Err (AnswerTooLong (length a.body)) else Ok a
 
 -- the answer to a query that may be asked
-abbrev pub answered : Catalogue → Result Query Refusal → Result Answer Refusal
-answered c (Ok q) = sent (answer_to c q)
-answered c (Err refusal) = Err refusal
+abbrev pub answered : Sight → Result Query Refusal → Result Answer Refusal
+answered s (Ok q) = sent (answer_to s q)
+answered s (Err refusal) = Err refusal
 
 -- the answer to a query's bytes, or why there is none
-abbrev pub answer_of : Catalogue → List ℕ → Result Answer Refusal
-answer_of c bytes = answered c (asked bytes)
+abbrev pub answer_of : Sight → List ℕ → Result Answer Refusal
+answer_of s bytes = answered s (asked bytes)

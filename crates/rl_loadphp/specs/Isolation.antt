@@ -1,8 +1,12 @@
--- What others may not see changes no answer.
+-- What a viewer may not see changes no answer.
 use Rattle.std.specs.Prelude.{◌≡◌, ℕ, if◌then◌else◌, List, Option, Some, None, option_and_then, bytes_eq, codes}
 use Rattle.std.specs.List.{AllByRecursion}
 use Rattle.rl_defs.specs.Catalogue.{Catalogue, file_of, module_named}
 use Rattle.rl_defs.specs.declared.module_def.ModuleDef.{ModuleDef}
+use Rattle.rl_pages.specs.declared.entry.Entry.{Entry}
+use Rattle.rl_pages.specs.declared.viewer.Viewer.{Viewer}
+use Rattle.rl_pages.specs.Seen.{seen}
+use Rattle.rl_build.specs.Sight.{sight}
 use Rattle.rl_loadphp.specs.Answer.{answer_of}
 
 -- a module unless it is private
@@ -21,6 +25,12 @@ pub record DifferInPrivate (c d : Catalogue) : Type 0 where
   pub modules : (name : List ℕ) → public_module c name ≡ public_module d name
   pub files : (name : List ℕ) (m : ModuleDef) → public_module c name ≡ Some m → AllByRecursion (λ file. file_of c file ≡ file_of d file) m.scripts
 
--- then every query has the same answer
+-- then every query of every viewer has the same answer
 abbrev pub PrivateIsUnseen : Type 0
-PrivateIsUnseen = (c d : Catalogue) → DifferInPrivate c d → (query : List ℕ) → answer_of c query ≡ answer_of d query
+PrivateIsUnseen = (c d : Catalogue) → DifferInPrivate c d → (entries : List Entry) (viewer : Viewer) (query : List ℕ)
+    → answer_of (sight c entries viewer) query ≡ answer_of (sight d entries viewer) query
+
+-- Of a wiki's history an answer tells a viewer nothing but what that viewer sees.
+abbrev pub AnswersAreSeen : Type 0
+AnswersAreSeen = (c : Catalogue) (entries others : List Entry) (viewer : Viewer) → seen viewer entries ≡ seen viewer others → (query : List ℕ)
+    → answer_of (sight c entries viewer) query ≡ answer_of (sight c others viewer) query

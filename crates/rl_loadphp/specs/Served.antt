@@ -8,6 +8,7 @@ use Rattle.rl_defs.specs.Catalogue.{Catalogue}
 use Rattle.rl_build.specs.declared.context.Context.{Context}
 use Rattle.rl_build.specs.declared.sheets.Sheet.{Sheet}
 use Rattle.rl_build.specs.declared.payloads.Payload.{Payload}
+use Rattle.rl_build.specs.Sight.{Sight}
 use Rattle.rl_build.specs.Context.{context_of}
 use Rattle.rl_build.specs.Sheet.{sheet_of}
 use Rattle.rl_build.specs.Payload.{payload_of}
@@ -23,20 +24,20 @@ query_context c q = context_of c q.lang q.skin q.debug
 -- wiki serves, and one of the group `user` to the viewer whom the query names alone. The viewer is nobody, whom an
 -- empty name means.
 abbrev pub may_serve : List ℕ → Sheet → Bool
-may_serve user s =
-    not (bytes_eq s.group (codes "private")) && bytes_eq s.source (codes "local")
-    && not (bytes_eq s.group (codes "user") && nat_lt 0 (length user))
+may_serve user sheet =
+    not (bytes_eq sheet.group (codes "private")) && bytes_eq sheet.source (codes "local")
+    && not (bytes_eq sheet.group (codes "user") && nat_lt 0 (length user))
 
-abbrev pub is_served : Catalogue → Context → List ℕ → List ℕ → Bool
-is_served c ctx user name = option_map_or (may_serve user) (sheet_of c ctx name) false
+abbrev pub is_served : Sight → Context → List ℕ → List ℕ → Bool
+is_served s ctx user name = option_map_or (may_serve user) (sheet_of s ctx name) false
 
-abbrev pub served : Catalogue → Query → List (List ℕ)
-served c q = filter (is_served c (query_context c q) q.user) (names_of q)
+abbrev pub served : Sight → Query → List (List ℕ)
+served s q = filter (is_served s (query_context s.catalogue q) q.user) (names_of q)
 
 -- all others
-abbrev pub missing : Catalogue → Query → List (List ℕ)
-missing c q = filter (λ name. not (is_served c (query_context c q) q.user name)) (names_of q)
+abbrev pub missing : Sight → Query → List (List ℕ)
+missing s q = filter (λ name. not (is_served s (query_context s.catalogue q) q.user name)) (names_of q)
 
 -- what these names bring
-abbrev pub payloads : Catalogue → Context → List (List ℕ) → List Payload
-payloads c ctx names = filter_map (payload_of c ctx) names
+abbrev pub payloads : Sight → Context → List (List ℕ) → List Payload
+payloads s ctx names = filter_map (payload_of s ctx) names

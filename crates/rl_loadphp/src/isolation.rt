@@ -1,9 +1,9 @@
-//! What is private changes no answer.
-ghost use Rattle.rl_loadphp.specs.Isolation.{PrivateIsUnseen};
+//! What a viewer may not see changes no answer.
+ghost use Rattle.rl_loadphp.specs.Isolation.{AnswersAreSeen, PrivateIsUnseen};
 
-/// Two wikis that differ in private modules alone give the same answer to every query. This does
-/// nothing: its contract is the law.
-#[tactic(auto, using(crate::proofs::IsolationLemmas::private_is_unseen))]
+/// Two wikis that differ in private modules alone give the same answer to every query, and so do two of the same
+/// definitions whose histories a viewer sees alike. This does nothing: its contract is the law.
 pub fn isolation_law()
-    ensures { PrivateIsUnseen }
+    ensures private { PrivateIsUnseen }
+    ensures seen { AnswersAreSeen }
 {}

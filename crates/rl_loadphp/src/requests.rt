@@ -4,6 +4,7 @@ ghost use Rattle.std.specs.List.{AllByRecursion};
 ghost use Rattle.rl_names.specs.declared.query.Only.{Only as only};
 ghost use Rattle.rl_wire.specs.Line.{IsPart};
 ghost use Rattle.rl_names.specs.Meant.{Gives};
+ghost use Rattle.rl_build.specs.Sight.{sight};
 ghost use Rattle.rl_build.specs.Payload.{version_of};
 ghost use Rattle.rl_loadphp.specs.Served.{missing, payloads, query_context, served};
 ghost use Rattle.rl_loadphp.specs.Body.{body_of, parts_of};
@@ -22,6 +23,7 @@ use rl_names::{
     MAX_ANSWER_BYTES, MAX_NAMES, MAX_QUERY_BYTES, NoMemory, Only, Query, Text, Version, combined,
     distinct, expand, expanded_count,
 };
+use rl_pages::{Pages, Viewer};
 use std::alloc::Global;
 
 /// For how many seconds an answer may be kept that is what the query's version tells: 30 days.
@@ -78,23 +80,31 @@ fn aged(told: &str, made: Lines) -> Made
 fn make(
     alloc: Global,
     catalog: &Catalog,
+    pages: &Pages,
+    viewer: &Viewer,
     ctx: &Context,
     query: &Query,
     names: &Asked,
 ) -> Result<Made, NoMemory>
     ensures body { IfOk result (λ m. string_bytes m.body
-        ≡ body_of catalog.now ctx.now query.now.only names.now.served.items names.now.missing.items) }
+        ≡ body_of (sight catalog.now pages.now.entries viewer.now) ctx.now query.now.only names.now.served.items names.now.missing.items) }
     ensures age { IfOk result (λ m. m.max_age
-        ≡ age_with query.now.version (map version_of (payloads catalog.now ctx.now names.now.served.items))) }
+        ≡ age_with query.now.version (map version_of (payloads (sight catalog.now pages.now.entries viewer.now) ctx.now names.now.served.items))) }
     ensures parts { IfOk result (λ _. query.now.only ≡ only.All → AllByRecursion IsPart
-        (parts_of catalog.now ctx.now names.now.served.items names.now.missing.items)) }
+        (parts_of (sight catalog.now pages.now.entries viewer.now) ctx.now names.now.served.items names.now.missing.items)) }
 {
     let told = query.version.as_str();
     let wanted = !told.is_empty();
     match query.only {
-        Only::All => Ok(aged(told, modules(alloc, catalog, ctx, names)?)),
-        Only::Scripts => Ok(aged(told, scripts(alloc, catalog, ctx, names, wanted)?)),
-        Only::Styles => Ok(aged(told, styles(alloc, catalog, ctx, names, wanted)?)),
+        Only::All => Ok(aged(told, modules(alloc, catalog, pages, viewer, ctx, names)?)),
+        Only::Scripts => Ok(aged(
+            told,
+            scripts(alloc, catalog, pages, viewer, ctx, names, wanted)?,
+        )),
+        Only::Styles => Ok(aged(
+            told,
+            styles(alloc, catalog, pages, viewer, ctx, names, wanted)?,
+        )),
     }
 }
 
@@ -108,16 +118,31 @@ fn kind(only: Only) -> Kind
 }
 
 /// The answer to a query, however many names it asks for and however long the answer is.
-fn answer_to(alloc: Global, catalog: &Catalog, query: &Query) -> Result<Answer, NoMemory>
-    ensures value { IfOk result (λ a. a ≡ answer_to_query catalog.now query.now) }
+fn answer_to(
+    alloc: Global,
+    catalog: &Catalog,
+    pages: &Pages,
+    viewer: &Viewer,
+    query: &Query,
+) -> Result<Answer, NoMemory>
+    ensures value { IfOk result (λ a. a ≡ answer_to_query (sight catalog.now pages.now.entries viewer.now) query.now) }
     ensures parts { IfOk result (λ _. query.now.only ≡ only.All → AllByRecursion IsPart
-        (parts_of catalog.now (query_context catalog.now query.now) (served catalog.now query.now) (missing catalog.now query.now))) }
+        (let s = sight catalog.now pages.now.entries viewer.now in
+        parts_of s (query_context s.catalogue query.now) (served s query.now) (missing s query.now))) }
 {
     let ctx = read_context(alloc, catalog, query)?;
     let asked = expand(alloc, query.modules.as_str())?;
     let names = distinct(alloc, &asked)?;
-    let names = sort_out(alloc, catalog, &ctx, query.user.as_str(), names)?;
-    let made = make(alloc, catalog, &ctx, query, &names)?;
+    let names = sort_out(
+        alloc,
+        catalog,
+        pages,
+        viewer,
+        &ctx,
+        query.user.as_str(),
+        names,
+    )?;
+    let made = make(alloc, catalog, pages, viewer, &ctx, query, &names)?;
     Ok(Answer {
         body: Text::from_string(made.body),
         kind: kind(query.only),
@@ -155,17 +180,23 @@ fn sent(answer: Answer) -> Result<Answer, AnswerError>
     Ok(answer)
 }
 
-/// The answer to the bytes of a query, for a viewer who is nobody.
-pub fn answer(alloc: Global, catalog: &Catalog, query: &[u8]) -> Result<Answer, AnswerError>
-    ensures answer { Gives refusal_told result (answer_of catalog.now query.now) }
+/// The answer that a wiki gives a viewer to the bytes of a query.
+pub fn answer(
+    alloc: Global,
+    catalog: &Catalog,
+    pages: &Pages,
+    viewer: &Viewer,
+    query: &[u8],
+) -> Result<Answer, AnswerError>
+    ensures answer { Gives refusal_told result (answer_of (sight catalog.now pages.now.entries viewer.now) query.now) }
 
     // Nothing of a private module is sent, nor of one that another wiki serves, nor of another
     // user's.
-    ensures pieces { IfOk result (λ a. IsMadeOfPieces catalog.now (query_of query.now) a.body) }
+    ensures pieces { IfOk result (λ a. IsMadeOfPieces (sight catalog.now pages.now.entries viewer.now) (query_of query.now) a.body) }
 
     // Of an answer without `only` a reader gets parts: their names are names, and the keys of their messages ascend.
     ensures parts { IfOk result (λ a. SaysParts (query_of query.now) a.body) }
 {
     let query = read_query(alloc, query)?;
-    sent(answer_to(alloc, catalog, &query)?)
+    sent(answer_to(alloc, catalog, pages, viewer, &query)?)
 }

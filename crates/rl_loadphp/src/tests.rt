@@ -2,6 +2,7 @@
 
 use crate::{Answer, AnswerError, Kind, answer, read_context, read_query};
 use rl_defs::Catalog;
+use rl_pages::{Pages, Viewer};
 use std::alloc::Global;
 use std::test::Fail;
 
@@ -130,9 +131,15 @@ mw.loader.state({\"\":\"missing\"});\n",
     ),
 ];
 
+/// What nobody is answered by a wiki without pages.
+fn asked(alloc: Global, catalog: &Catalog, query: &str) -> Result<Answer, AnswerError> {
+    let pages = Pages::empty(alloc)?;
+    answer(alloc, catalog, &pages, &Viewer::Anon, query.as_bytes())
+}
+
 fn answered(alloc: Global, query: &str) -> Result<Answer, Fail> {
     let catalog = Catalog::read(alloc, WIKI.as_bytes())?;
-    Ok(answer(alloc, &catalog, query.as_bytes())?)
+    Ok(asked(alloc, &catalog, query)?)
 }
 
 #[test]
@@ -198,7 +205,7 @@ fn long_query(alloc: Global, piece: &str, times: usize) -> Result<String, Fail> 
 
 /// How many bytes the answer has, or why there is none.
 fn length(alloc: Global, catalog: &Catalog, query: &str) -> Result<usize, AnswerError> {
-    let answer = answer(alloc, catalog, query.as_bytes())?;
+    let answer = asked(alloc, catalog, query)?;
     Ok(answer.body.as_str().len())
 }
 

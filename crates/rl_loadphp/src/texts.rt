@@ -1,6 +1,7 @@
 //! Bodies of scripts or of styles alone.
 ghost use Rattle.std.specs.Prelude.{◌≡◌, ◌++◌, ◌∷◌, [], true, IfOk, OnOk, map, string_bytes};
 ghost use Rattle.rl_wire.specs.Message.{AreAscending};
+ghost use Rattle.rl_build.specs.Sight.{sight};
 ghost use Rattle.rl_build.specs.Payload.{version_of};
 ghost use Rattle.rl_names.specs.declared.query.Only.{Only as only};
 ghost use Rattle.rl_loadphp.specs.Served.{payloads};
@@ -12,6 +13,7 @@ use crate::serving::Asked;
 use rl_build::{Context, Payload, payload, version};
 use rl_defs::Catalog;
 use rl_names::{NoMemory, Version};
+use rl_pages::{Pages, Viewer};
 use std::alloc::Global;
 
 /// Adds the version of a payload, where it is wanted.
@@ -37,14 +39,16 @@ fn push_script(
     versions: &mut Vec<Version>,
     wanted: bool,
     catalog: &Catalog,
+    pages: &Pages,
+    viewer: &Viewer,
     ctx: &Context,
     name: &str,
 ) -> Result<(), NoMemory>
-    ensures text { OnOk result (string_bytes out.new ≡ string_bytes out.old ++ script_of catalog.now ctx.now name.now) }
+    ensures text { OnOk result (string_bytes out.new ≡ string_bytes out.old ++ script_of (sight catalog.now pages.now.entries viewer.now) ctx.now name.now) }
     ensures versions { OnOk result (wanted ≡ true
-        → versions.new.items ≡ versions.old.items ++ version_in catalog.now ctx.now name.now) }
+        → versions.new.items ≡ versions.old.items ++ version_in (sight catalog.now pages.now.entries viewer.now) ctx.now name.now) }
 {
-    if let Some(brought) = payload(alloc, catalog, ctx, name.as_bytes())? {
+    if let Some(brought) = payload(alloc, catalog, pages, viewer, ctx, name.as_bytes())? {
         out.push_str(brought.script.as_str())?;
         push_version(alloc, versions, wanted, &brought)?;
     }
@@ -55,14 +59,16 @@ fn push_script(
 pub(crate) fn scripts(
     alloc: Global,
     catalog: &Catalog,
+    pages: &Pages,
+    viewer: &Viewer,
     ctx: &Context,
     names: &Asked,
     wanted: bool,
 ) -> Result<Lines, NoMemory>
     ensures body { IfOk result (λ m. string_bytes m.body
-        ≡ body_of catalog.now ctx.now only.Scripts names.now.served.items names.now.missing.items) }
+        ≡ body_of (sight catalog.now pages.now.entries viewer.now) ctx.now only.Scripts names.now.served.items names.now.missing.items) }
     ensures versions { IfOk result (λ m. wanted ≡ true → m.versions.items
-        ≡ map version_of (payloads catalog.now ctx.now names.now.served.items)) }
+        ≡ map version_of (payloads (sight catalog.now pages.now.entries viewer.now) ctx.now names.now.served.items)) }
 {
     let mut body = String::new(alloc);
     let mut versions = Vec::new(alloc);
@@ -73,6 +79,8 @@ pub(crate) fn scripts(
             &mut versions,
             wanted,
             catalog,
+            pages,
+            viewer,
             ctx,
             name.as_str(),
         )?;
@@ -89,14 +97,16 @@ fn push_styles(
     versions: &mut Vec<Version>,
     wanted: bool,
     catalog: &Catalog,
+    pages: &Pages,
+    viewer: &Viewer,
     ctx: &Context,
     name: &str,
 ) -> Result<(), NoMemory>
-    ensures text { OnOk result (string_bytes out.new ≡ string_bytes out.old ++ styles_of catalog.now ctx.now name.now) }
+    ensures text { OnOk result (string_bytes out.new ≡ string_bytes out.old ++ styles_of (sight catalog.now pages.now.entries viewer.now) ctx.now name.now) }
     ensures versions { OnOk result (wanted ≡ true
-        → versions.new.items ≡ versions.old.items ++ version_in catalog.now ctx.now name.now) }
+        → versions.new.items ≡ versions.old.items ++ version_in (sight catalog.now pages.now.entries viewer.now) ctx.now name.now) }
 {
-    if let Some(brought) = payload(alloc, catalog, ctx, name.as_bytes())? {
+    if let Some(brought) = payload(alloc, catalog, pages, viewer, ctx, name.as_bytes())? {
         out.push_str(brought.styles.as_str())?;
         push_version(alloc, versions, wanted, &brought)?;
     }
@@ -107,14 +117,16 @@ fn push_styles(
 pub(crate) fn styles(
     alloc: Global,
     catalog: &Catalog,
+    pages: &Pages,
+    viewer: &Viewer,
     ctx: &Context,
     names: &Asked,
     wanted: bool,
 ) -> Result<Lines, NoMemory>
     ensures body { IfOk result (λ m. string_bytes m.body
-        ≡ body_of catalog.now ctx.now only.Styles names.now.served.items names.now.missing.items) }
+        ≡ body_of (sight catalog.now pages.now.entries viewer.now) ctx.now only.Styles names.now.served.items names.now.missing.items) }
     ensures versions { IfOk result (λ m. wanted ≡ true → m.versions.items
-        ≡ map version_of (payloads catalog.now ctx.now names.now.served.items)) }
+        ≡ map version_of (payloads (sight catalog.now pages.now.entries viewer.now) ctx.now names.now.served.items)) }
 {
     let mut body = String::new(alloc);
     let mut versions = Vec::new(alloc);
@@ -125,6 +137,8 @@ pub(crate) fn styles(
             &mut versions,
             wanted,
             catalog,
+            pages,
+            viewer,
             ctx,
             name.as_str(),
         )?;

@@ -3,6 +3,7 @@ pub mod CutLemmas
 pub mod CountingLemmas
 pub mod NameLemmas
 pub mod KeyLemmas
+pub mod HashLemmas
 pub mod PackingLemmas
 pub mod GroupingLemmas
 pub mod QueryLemmas

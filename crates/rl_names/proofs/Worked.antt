@@ -3,10 +3,11 @@ use Rattle.std.proofs.Common.{◌≡◌, ℕ, List, [], ◌∷◌, refl, Some, N
 use Rattle.std.specs.Prelude.{codes}
 use Rattle.std.specs.Str.{is_utf8, chars}
 use Rattle.std.specs.Str.Lossy.{utf8_lossy, utf8_valid_len}
+use Rattle.std.specs.Fmt.{digits}
 use Rattle.form_urlencoded.specs.Form.{raw_pairs, split, byte_serialize}
 use Rattle.percent_encoding.specs.Percent.{percent_decode, percent_encode_byte}
 use lib.Utf8.{encode}
-use Rattle.rl_names.specs.Hash.{hash_5, combined}
+use Rattle.rl_names.specs.Hash.{hash_5, combined, version_of_hash}
 use Rattle.rl_names.specs.Key.{key_of, NoVersion, BadVersion, BadName}
 use Rattle.rl_names.specs.Name.{name_fault, Empty, TooLong, BadByte, LeadingDot}
 use Rattle.rl_names.specs.Packing.{pack, packed_order, expand}
@@ -56,22 +57,28 @@ bad_name = refl
 -- ---- hashes
 
 hash_of_nothing : hash_5 [] ≡ codes "ztntf"
+unfolding version_of_hash digits
 hash_of_nothing = refl
 
 hash_of_a : hash_5 (codes "a") ≡ codes "1efc7"
+unfolding version_of_hash digits
 hash_of_a = refl
 
 hash_of_b : hash_5 (codes "b") ≡ codes "1efc7"
+unfolding version_of_hash digits
 hash_of_b = refl
 
 hash_of_foobar : hash_5 (codes "foobar") ≡ codes "duu7a"
+unfolding version_of_hash digits
 hash_of_foobar = refl
 
 -- 79rb in base 36, padded
 hash_padded : hash_5 (codes "98430") ≡ codes "079rb"
+unfolding version_of_hash digits
 hash_padded = refl
 
 combined_versions : combined (codes "aaaaa" ∷ codes "ccccc" ∷ codes "bbbbb" ∷ []) ≡ codes "unhc5"
+unfolding version_of_hash digits
 combined_versions = refl
 
 -- ---- packed lists

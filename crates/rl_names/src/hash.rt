@@ -1,7 +1,7 @@
 //! The hash that versions are made by: FNV-1 of 32 bits, written with five digits in base 36.
-ghost use Rattle.std.specs.Prelude.{◌≡◌, ◌<◌, List, ℕ, [], ◌++◌, IsTrue, fold};
-ghost use Rattle.std.specs.Char.{digit_char};
-ghost use Rattle.rl_names.specs.Hash.{fnv, fnv_step, hash_5, combined as combined_of, version_of_hash, base_36};
+ghost use Rattle.std.specs.Prelude.{◌≡◌, ◌<◌, ◌^◌, false, List, ℕ, [], ◌++◌, IsTrue, fold};
+ghost use Rattle.std.specs.Fmt.{digit_glyph};
+ghost use Rattle.rl_names.specs.Hash.{fnv, fnv_step, hash_5, combined as combined_of, version_of_hash};
 ghost use Rattle.rl_names.specs.Name.{is_version_byte};
 
 use crate::name::Version;
@@ -62,7 +62,7 @@ impl Hasher {
 /// A digit of base 36.
 fn digit(value: u32) -> u8
     requires { value < 36 }
-    ensures digit { result ≡ digit_char value }
+    ensures digit { result ≡ digit_glyph false value }
     ensures kind { IsTrue (is_version_byte result) }
 {
     if value < 10 {
@@ -74,7 +74,8 @@ fn digit(value: u32) -> u8
 
 /// The hash without the digits after the fifth.
 fn leading(hash: u32) -> u32
-    ensures { base_36 5 result ≡ version_of_hash hash }
+    ensures five { result < 36 ^ 5 }
+    ensures same { version_of_hash result ≡ version_of_hash hash }
 {
     if hash < 36u32.pow(5) {
         hash

@@ -20,7 +20,7 @@ use Rattle.rl_pages.specs.Viewer.{IsViewer}
 use Rattle.rl_pages.specs.Policy.{may_edit}
 use Rattle.rl_pages.specs.History.{edits, revision_of, bytes_of, size_of, Fits}
 use Rattle.rl_pages.specs.Refusals.{checked_edit, titled_edit, sized_edit, checked_choice, checked_kept, is_full, is_kept, is_option_key, is_spelt_user}
-use Rattle.rl_pages.specs.Refusals.{name_of, AnswersEdit, AnswersChoice, IsAccepted}
+use Rattle.rl_pages.specs.Refusals.{name_of, IsAccepted}
 use Rattle.rl_pages.specs.Laws.{HistoryLaws}
 use Rattle.rl_pages.proofs.IndexLemmas.{revision_append, revision_within, last_text}
 
@@ -125,16 +125,16 @@ choice_is_kept entries (User name) key value entry is taken =
 -- the same, as the checks answer
 
 pub titled_is_kept : (admins : List (List ℕ)) (entries : List Entry) (viewer : Viewer) (bytes title : List ℕ) (base : ℕ) (text : List ℕ) (entry : Entry)
-    → IsViewer viewer → title_of bytes ≡ Some title → AnswersEdit (Ok entry) (titled_edit admins entries viewer title base text)
+    → IsViewer viewer → title_of bytes ≡ Some title → titled_edit admins entries viewer title base text ≡ Ok entry
     → is_kept entry ≡ true
 titled_is_kept admins entries viewer bytes title base text entry is spelt answer =
     edit_is_kept admins entries viewer bytes base text entry is
-    (ap (λ o. option_map_or (λ t. titled_edit admins entries viewer t base text) o (Err edit.BadTitle)) spelt ∙ sym (answer (λ h. absurd (cc))))
+    (ap (λ o. option_map_or (λ t. titled_edit admins entries viewer t base text) o (Err edit.BadTitle)) spelt ∙ answer)
 
 pub chosen_is_kept : (entries : List Entry) (viewer : Viewer) (name key value : List ℕ) (entry : Entry)
-    → IsViewer viewer → viewer ≡ User name → AnswersChoice (Ok entry) (checked_choice entries (User name) key value) → is_kept entry ≡ true
+    → IsViewer viewer → viewer ≡ User name → checked_choice entries (User name) key value ≡ Ok entry → is_kept entry ≡ true
 chosen_is_kept entries viewer name key value entry is who answer =
-    choice_is_kept entries (User name) key value entry (subst IsViewer who is) (sym (answer (λ h. absurd (cc))))
+    choice_is_kept entries (User name) key value entry (subst IsViewer who is) answer
 
 -- ---- one entry more
 

@@ -1,6 +1,6 @@
 -- What becomes of an edit, a choice or a kept entry: the entry, or the first rule that it breaks.
-use Rattle.std.specs.Prelude.{◌≡◌, ◌≢◌, ℕ, ◌+◌, ◌==◌, ◌≤◌, ◌&&◌, ◌||◌, Bool, false, not, nat_lt, nat_le}
-use Rattle.std.specs.Prelude.{if◌then◌else◌, IsTrue, List, [], length, bytes_eq, Result, Ok, Err}
+use Rattle.std.specs.Prelude.{ℕ, ◌+◌, ◌==◌, ◌≤◌, ◌&&◌, ◌||◌, Bool, false, not, nat_lt, nat_le}
+use Rattle.std.specs.Prelude.{if◌then◌else◌, IsTrue, List, [], length, bytes_eq, Option, Some, None, Result, Ok, Err}
 use Rattle.std.specs.List.{list_all}
 use Rattle.std.specs.Option.{option_map_or}
 use Rattle.rl_names.specs.Title.{title_of, user_name_of}
@@ -85,14 +85,16 @@ pub record IsAccepted (entries : List Entry) : Type 0 where
   pub few : length entries ≤ limits.MAX_ENTRIES
   pub small : bytes_of entries ≤ limits.MAX_ENTRY_BYTES
 
--- ---- answers
+-- ---- the refusal that an error tells; want of memory is none
 
--- an answer is what was checked; want of memory may come in its place
-abbrev pub AnswersEdit : Result Entry EditError → Result Entry EditError → Type 0
-AnswersEdit answer checked = answer ≢ Err edit.NoMemory → answer ≡ checked
+abbrev pub edit_refusal : EditError → Option EditError
+edit_refusal edit.NoMemory = None
+edit_refusal why = Some why
 
-abbrev pub AnswersChoice : Result Entry ChoiceError → Result Entry ChoiceError → Type 0
-AnswersChoice answer checked = answer ≢ Err choice.NoMemory → answer ≡ checked
+abbrev pub choice_refusal : ChoiceError → Option ChoiceError
+choice_refusal choice.NoMemory = None
+choice_refusal why = Some why
 
-abbrev pub AnswersKept : Result Entry KeptError → Result Entry KeptError → Type 0
-AnswersKept answer checked = answer ≢ Err kept.NoMemory → answer ≡ checked
+abbrev pub kept_refusal : KeptError → Option KeptError
+kept_refusal kept.NoMemory = None
+kept_refusal why = Some why

@@ -1,6 +1,6 @@
 -- Who looks at a wiki, and whose a page is.
 use Rattle.std.specs.Prelude.{◌≡◌, ℕ, ◌==◌, Bool, true, false, if◌then◌else◌, List, [], ◌∷◌, take, drop, position, nat_eq, bytes_eq}
-use Rattle.std.specs.Prelude.{codes, Option, Some, None, option_map, Result, Ok, Err}
+use Rattle.std.specs.Prelude.{codes, Option, Some, None, option_map}
 use Rattle.std.specs.List.{starts_with}
 use Rattle.std.specs.Option.{option_map_or}
 use Rattle.rl_names.specs.Title.{user_name_of}
@@ -14,11 +14,10 @@ abbrev pub viewer_of : List ℕ → Option Viewer
 viewer_of [] = Some Anon
 viewer_of (b ∷ bs) = option_map User (user_name_of (b ∷ bs))
 
--- a reading answers with the viewer; want of memory may come in its place
-abbrev pub ReadsViewer : Result Viewer ViewerError → Option Viewer → Type 0
-ReadsViewer (Ok viewer) named = named ≡ Some viewer
-ReadsViewer (Err BadUser) named = named ≡ None
-ReadsViewer (Err NoMemory) named = Unit {0}
+-- the refusal that an error tells; want of memory is none
+abbrev pub viewer_refusal : ViewerError → Option ViewerError
+viewer_refusal BadUser = Some BadUser
+viewer_refusal NoMemory = None
 
 -- a viewer as reading gives it
 abbrev pub IsViewer : Viewer → Type 0

@@ -7,7 +7,8 @@ ghost use Rattle.rl_pages.specs.Viewer.{IsViewer};
 ghost use Rattle.rl_pages.specs.History.{page_of, revision_of, options_of, bytes_of, size_of, Fits};
 ghost use Rattle.rl_pages.specs.Laws.{HistoryLaws};
 ghost use Rattle.rl_pages.specs.Refusals.{checked_edit, titled_edit, sized_edit, checked_choice, checked_kept, is_full, is_option_key, is_option_byte};
-ghost use Rattle.rl_pages.specs.Refusals.{is_spelt_user, is_kept, name_of, AnswersEdit, AnswersChoice, AnswersKept, IsAccepted};
+ghost use Rattle.rl_names.specs.Meant.{Gives};
+ghost use Rattle.rl_pages.specs.Refusals.{is_spelt_user, is_kept, name_of, edit_refusal, choice_refusal, kept_refusal, IsAccepted};
 ghost use Rattle.rl_pages.specs.Seen.{seen, SeenLaws};
 
 use crate::entry::Entry;
@@ -169,7 +170,7 @@ impl Pages {
 
     /// The edit of a page that the viewer may edit, if it is at the base.
     fn sized(&self, viewer: &Viewer, title: Title, text: &str) -> Result<Entry, EditError>
-        ensures answer { AnswersEdit result (sized_edit self.now.entries viewer.now title text.now) }
+        ensures answer { Gives edit_refusal result (sized_edit self.now.entries viewer.now title text.now) }
         ensures fits { IfOk result (Fits self.now.entries) }
     {
         if text.len() as u64 > MAX_PAGE_BYTES {
@@ -197,7 +198,7 @@ impl Pages {
         base: u64,
         text: &str,
     ) -> Result<Entry, EditError>
-        ensures answer { AnswersEdit result (titled_edit policy.now.admins self.now.entries viewer.now title base text.now) }
+        ensures answer { Gives edit_refusal result (titled_edit policy.now.admins self.now.entries viewer.now title base text.now) }
         ensures fits { IfOk result (Fits self.now.entries) }
     {
         if !policy.may_edit(viewer, &title) {
@@ -238,7 +239,7 @@ impl Pages {
 
         // In this order: the bytes are no title; the viewer may not edit the page; it is not at the base; the text is too
         // long; the history is full.
-        ensures answer { AnswersEdit result (checked_edit policy.now.admins self.old.entries viewer.now title.now base text.now) }
+        ensures answer { Gives edit_refusal result (checked_edit policy.now.admins self.old.entries viewer.now title.now base text.now) }
         ensures room { IfOk result (λ entry. self.new ≡ record self.old { room = Some entry }) }
         ensures refused { OnErr result (self.new ≡ self.old) }
     {
@@ -249,7 +250,7 @@ impl Pages {
 
     /// The choice of somebody, if it keeps the rules.
     fn chosen(&self, name: &Text, key: &str, value: &str) -> Result<Entry, ChoiceError>
-        ensures answer { AnswersChoice result (checked_choice self.now.entries (Viewer.User name.now) key.now value.now) }
+        ensures answer { Gives choice_refusal result (checked_choice self.now.entries (Viewer.User name.now) key.now value.now) }
         ensures fits { IfOk result (Fits self.now.entries) }
     {
         if !is_option_key(key.as_bytes()) {
@@ -279,7 +280,7 @@ impl Pages {
         value: &str,
     ) -> Result<Entry, ChoiceError>
         requires { IsViewer viewer.now }
-        ensures answer { AnswersChoice result (checked_choice self.old.entries viewer.now key.now value.now) }
+        ensures answer { Gives choice_refusal result (checked_choice self.old.entries viewer.now key.now value.now) }
         ensures room { IfOk result (λ entry. self.new ≡ record self.old { room = Some entry }) }
         ensures refused { OnErr result (self.new ≡ self.old) }
     {
@@ -292,7 +293,7 @@ impl Pages {
 
     /// Room for an entry that was kept; neither the policy nor a base is asked.
     pub fn check_kept(&mut self, entry: &Entry) -> Result<Entry, KeptError>
-        ensures answer { AnswersKept result (checked_kept self.old.entries entry.now) }
+        ensures answer { Gives kept_refusal result (checked_kept self.old.entries entry.now) }
         ensures room { IfOk result (λ entry. self.new ≡ record self.old { room = Some entry }) }
         ensures refused { OnErr result (self.new ≡ self.old) }
     {

@@ -1,6 +1,7 @@
 //! Who looks at a wiki.
 ghost use Rattle.std.specs.Prelude.{◌≡◌, ◌==◌, ◌<◌, length, position, option_map, IfOk, IfSome};
-ghost use Rattle.rl_pages.specs.Viewer.{viewer_of, IsViewer, is_user, is_seen_by, before_slash, owner_of, ReadsViewer};
+ghost use Rattle.rl_names.specs.Meant.{Reads};
+ghost use Rattle.rl_pages.specs.Viewer.{viewer_of, IsViewer, is_user, is_seen_by, before_slash, owner_of, viewer_refusal};
 
 use rl_names::{NoMemory, Text, UserName, UserNameError};
 use std::alloc::Global;
@@ -29,7 +30,7 @@ pub enum Viewer {
 impl Viewer {
     /// Reads the name of a viewer. No bytes at all are nobody's.
     pub fn read(alloc: Global, bytes: &[u8]) -> Result<Viewer, ViewerError>
-        ensures value { ReadsViewer result (viewer_of bytes.now) }
+        ensures value { Reads viewer_refusal result (viewer_of bytes.now) }
 
         // What was read is read again as itself.
         ensures viewer { IfOk result IsViewer }

@@ -9,7 +9,7 @@ use Rattle.rl_view_spec.specs.Numbers.{number_of, closure_numbers}
 use Rattle.rl_view_spec.specs.Progress.{name_at, HasDistinctNames}
 use Rattle.rl_view_spec.specs.Laws.{IsUnknown, IsLooped}
 use Rattle.rl_view_spec.proofs.ChainsLemmas.{row_from_dep}
-use Rattle.rl_view_spec.proofs.ToolsLemmas.{contains_head, contains_tail, contains_none, contains_filter, filter_contains, contains_flat_map}
+use Rattle.rl_view_spec.proofs.ToolsLemmas.{contains_filter, filter_contains, contains_flat_map, flat_map_contains}
 use Rattle.rl_view_spec.proofs.PlacesLemmas.{place_of, number_named, deps_alike}
 use Rattle.rl_view_spec.proofs.ResolveLemmas.{closure_on, closure_itself, in_one, of_one, resolves_accepted}
 use Rattle.rl_view_spec.proofs.RefusalsLemmas.{unknown_refused, cycle_refused}
@@ -17,16 +17,9 @@ use Rattle.rl_registry.specs.Kept.{AreClosures}
 use Rattle.rl_registry.specs.Search.{unknown, unknown_of, unknown_in}
 use Rattle.rl_rows.specs.Index.{IsLeastRow}
 use Rattle.rl_rows.proofs.EdgesLemmas as kept
-use Rattle.rl_rows.proofs.LeastLemmas.{least_of, none_of}
+use Rattle.rl_view_spec.proofs.LeastLemmas.{least_of, none_of}
 use Rattle.rl_registry.proofs.LoopsLemmas.{loops, loop_least}
 use Rattle.rl_registry.proofs.UnknownsLemmas.{closure_has, has_closure}
-
-pub flat_map_contains : {X Y : Type 0} (f : X → List Y) (xs : List X) (y : Y) → Contains (flat_map f xs) y → (x : X) × Contains xs x × Contains (f x) y
-flat_map_contains f [] y c = absurd (contains_none y c)
-flat_map_contains f (x ∷ xs) y c = ⊎_elim
-    (λ h. (x, contains_head x xs, h))
-    (λ t. let m = flat_map_contains f xs y t in (m.0, contains_tail x xs m.0 m.1, m.2))
-    (Contains-append_cases (f x) (flat_map f xs) y c)
 
 -- a name without a number has no row
 pub rowless_named : (r : Registered) (name : Text) → is_none (number_of r name) ≡ true → has_row r name ≡ false

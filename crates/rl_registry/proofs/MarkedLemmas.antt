@@ -11,15 +11,12 @@ use Rattle.rl_view_spec.specs.Progress.{name_at, HasDistinctNames}
 use Rattle.rl_view_spec.proofs.ChainsLemmas.{led_in_closure, reaches_from_led, any_member, member_any}
 use Rattle.rl_graph.specs.Graph.{Reaches, ReachedFrom, MarksReached, marked, places_from}
 use Rattle.rl_registry.specs.Kept.{AreClosures}
+use Rattle.rl_view_spec.proofs.StatesLemmas.{iff_same}
+use Rattle.rl_view_spec.proofs.ToolsLemmas.{contains_head}
 use Rattle.rl_rows.specs.Edges.{HasEdges}
-use Rattle.rl_rows.proofs.EdgesLemmas.{blank, row_there, number_named, row_is, kept_indexed, kept_long, contains_here, contains_there, contains_cases}
+use Rattle.rl_rows.proofs.EdgesLemmas.{blank, row_there, number_named, row_is, kept_indexed, kept_long, contains_there, contains_cases}
 use Rattle.rl_rows.proofs.EdgesLemmas.{needed_within, row_to, row_from}
 use Rattle.rl_rows.proofs.WalkingLemmas.{led_has_row, leads_from_walk, walk_from_leads}
-
-pub same_tests : (a b : Bool) → (a ≡ true → b ≡ true) → (b ≡ true → a ≡ true) → a ≡ b
-same_tests true b f g = sym (f refl)
-same_tests false true f g = g refl
-same_tests false false f g = refl
 
 -- the starts of the names that have rows
 pub start_of : (r : Registered) (names : List Text) (k : ℕ) → Contains (filter_map (number_of r) names) k →
@@ -34,7 +31,7 @@ start_of r (name ∷ names) k c = step (λ d. start_of r names k d) (number_of r
         number_of r name ≡ o
         → Contains (cons_option o (filter_map (number_of r) names)) k → (n : Text) × Contains (name ∷ names) n × (number_of r n ≡ Some k)
     step rest None e c = later (rest c)
-    step rest (Some j) e c = ⊎_elim (λ is. (name, contains_here name names, e ∙ ap Some is)) (λ d. later (rest d))
+    step rest (Some j) e c = ⊎_elim (λ is. (name, contains_head name names, e ∙ ap Some is)) (λ d. later (rest d))
         (contains_cases j k (filter_map (number_of r) names) c)
 
 pub start_for : (r : Registered) (names : List Text) (name : Text) (k : ℕ) → Contains names name → number_of r name ≡ Some k →
@@ -45,7 +42,7 @@ start_for r (first ∷ names) name k c e = ⊎_elim (λ is. here is) (λ d. more
   where
     here : first ≡ name → Contains (cons_option (number_of r first) (filter_map (number_of r) names)) k
     here is = subst (λ (o : Option ℕ). Contains (cons_option o (filter_map (number_of r) names)) k) (sym (ap (number_of r) is ∙ e))
-        (contains_here k (filter_map (number_of r) names))
+        (contains_head k (filter_map (number_of r) names))
 
     more : (o : Option ℕ) → Contains (filter_map (number_of r) names) k → Contains (cons_option o (filter_map (number_of r) names)) k
     more None d = d
@@ -54,7 +51,7 @@ start_for r (first ∷ names) name k c e = ⊎_elim (λ is. here is) (λ d. more
 -- each mark says whether the row is in the closures
 pub mark_is : (r : Registered) (edges : List (List ℕ)) (names : List Text) (marks : List Bool) (k : ℕ) → HasEdges r edges →
     MarksReached edges (filter_map (number_of r) names) marks → k < length r.rows → marked marks k ≡ in_closures r names (name_at r k)
-mark_is r edges names marks k kept m low = same_tests (marked marks k) (in_closures r names (name_at r k)) to from
+mark_is r edges names marks k kept m low = iff_same (marked marks k) (in_closures r names (name_at r k)) to from
   where
     to : marked marks k ≡ true → in_closures r names (name_at r k) ≡ true
     to h =
@@ -129,7 +126,7 @@ needs_of_row r row low = ap (λ o. option_map_or (needed r) o []) (row_there r.r
 
 back_is : (r : Registered) (edges : List (List ℕ)) (row : ℕ) (marks : List Bool) → HasEdges r edges → row < length r.rows →
     MarksReached edges (needs_of r row) marks → marked marks row ≡ leads_back r (name_at r row)
-back_is r edges row marks kept low m = same_tests (marked marks row) (leads_back r (name_at r row)) to from
+back_is r edges row marks kept low m = iff_same (marked marks row) (leads_back r (name_at r row)) to from
   where
     to : marked marks row ≡ true → leads_back r (name_at r row) ≡ true
     to h =

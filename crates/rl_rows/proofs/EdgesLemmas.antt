@@ -19,6 +19,7 @@ use Rattle.rl_view_spec.specs.Numbers.{needed, needs_of, number_of, number_of_de
 use Rattle.rl_view_spec.specs.Progress.{name_at, HasDistinctNames}
 use Rattle.rl_view_spec.proofs.ChainsLemmas.{same}
 use Rattle.rl_view_spec.proofs.PlacesLemmas.{apart}
+use Rattle.rl_view_spec.proofs.ToolsLemmas.{contains_head}
 use Rattle.rl_graph.specs.Graph.{edge_lists, next_in}
 use Rattle.rl_graph.proofs.ToolsLemmas.{contains_none, listed}
 use Rattle.rl_rows.specs.Edges.{HasEdges, IsIndexed}
@@ -99,9 +100,6 @@ row_is r k distinct low = step (row_of r (name_at r k)) refl (found_there r.rows
         e ∙ sym g ∙ row_there r.rows k low
 
 -- membership, by the first element and the rest
-pub contains_here : {X : Type 0} (x : X) (xs : List X) → Contains (x ∷ xs) x
-contains_here x xs = (0, omega arith, refl)
-
 pub contains_there : {X : Type 0} (x y : X) (xs : List X) → Contains xs y → Contains (x ∷ xs) y
 contains_there x y xs c = (suc c.0, omega (arith, c.1), c.2)
 
@@ -121,7 +119,7 @@ needed_to r b low (dep ∷ deps) c = step (dep_name r dep) (λ d. needed_to r b 
     last name None e rest c = contains_there name (name_at r b) (filter_map (dep_name r) deps) (rest c)
     last name (Some k) e rest c = ⊎_elim
         (λ is. subst (λ (n : Text). Contains (name ∷ filter_map (dep_name r) deps) n) (sym (number_named r name k e).1 ∙ ap (name_at r) is)
-        (contains_here name (filter_map (dep_name r) deps)))
+        (contains_head name (filter_map (dep_name r) deps)))
         (λ d. contains_there name (name_at r b) (filter_map (dep_name r) deps) (rest d))
         (contains_cases k b (filter_map (number_of_dep r) deps) c)
 
@@ -143,7 +141,7 @@ needed_from r b distinct low (dep ∷ deps) c = step (dep_name r dep) (λ d. nee
     here : (name : Text) → name ≡ name_at r b → Contains (cons_option (number_of r name) (filter_map (number_of_dep r) deps)) b
     here name e = let n : number_of r name ≡ Some b = ap (number_of r) e ∙ number_is r b distinct low in
         subst (λ (o : Option ℕ). Contains (cons_option o (filter_map (number_of_dep r) deps)) b) (sym n)
-        (contains_here b (filter_map (number_of_dep r) deps))
+        (contains_head b (filter_map (number_of_dep r) deps))
 
     step : (o : Option Text) → (Contains (filter_map (dep_name r) deps) (name_at r b) → Contains (filter_map (number_of_dep r) deps) b)
         → Contains (cons_option o (filter_map (dep_name r) deps)) (name_at r b) →

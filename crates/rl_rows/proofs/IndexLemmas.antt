@@ -29,7 +29,7 @@ use Rattle.rl_view_spec.specs.Progress.{name_at}
 use Rattle.rl_rows.specs.Index.{name_in, AreDistinct, IsIndex}
 use Rattle.rl_rows.specs.Index.{IsLeastRow}
 use Rattle.rl_rows.proofs.EdgesLemmas.{blank, number_is, number_named}
-use Rattle.rl_rows.proofs.LeastLemmas.{cmp, least_is_least, alike_from_not_below}
+use Rattle.rl_view_spec.proofs.LeastLemmas.{cmp, least_is_least, alike_from_not_below}
 
 -- ---- the numbers
 

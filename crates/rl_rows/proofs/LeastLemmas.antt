@@ -1,97 +1,12 @@
--- The least of texts.
-use Rattle.std.proofs.Common.{◌≡◌, List, [], ◌∷◌, ◌++◌, Bool, true, false, cond, Option, Some, None, refl, ap, sym, subst, ◌∙◌, ⊎_elim}
+-- The least of texts, found one by one.
+use Rattle.std.proofs.Common.{◌≡◌, List, [], ◌∷◌, ◌++◌, Bool, true, false, cond, Option, Some, None, refl, sym, subst, ◌∙◌, ⊎_elim}
 use Rattle.std.specs.Prelude.{Contains}
-use Rattle.std.specs.Ordering.{nat_cmp, is_lt, is_gt, is_eq, ordering_reverse}
-use Rattle.std.specs.declared.cmp.Ordering.{Ordering}
-use Rattle.std.specs.declared.cmp.Ordering.TheVariants.{Less, Equal, Greater}
-use Rattle.std.specs.Cmp.Lexicographic.{slice_cmp}
-use Rattle.std.proofs.lemmas.Map.Text.{is_eq-slice_cmp}
-use Rattle.std.proofs.lemmas.Cmp.{nat_list_cmp_total, upto, tied_itself}
+use Rattle.std.specs.Ordering.{is_lt}
 use Rattle.rl_view_spec.specs.Closure.{Text, lesser, least}
 use Rattle.rl_view_spec.specs.Laws.{IsLeast}
 use Rattle.rl_rows.specs.Least.{least_from}
+use Rattle.rl_view_spec.proofs.LeastLemmas.{cmp, least_is_least, not_above, not_below_itself, not_below_on}
 use Rattle.rl_view_spec.proofs.ToolsLemmas.{contains_head, contains_tail, contains_cases, contains_none}
-use Rattle.rl_view_spec.proofs.ResolveLemmas.{least_none, least_some}
-use Rattle.rl_view_spec.proofs.ChainsLemmas.{same}
-
-abbrev pub cmp : Text → Text → Ordering
-cmp a b = slice_cmp nat_cmp a b
-
-turned : (o : Ordering) → is_lt (ordering_reverse o) ≡ is_gt o
-turned Less = refl
-turned Equal = refl
-turned Greater = refl
-
-lt_turned : (a b : Text) → is_lt (cmp a b) ≡ is_gt (cmp b a)
-lt_turned a b = ap is_lt (nat_list_cmp_total.antisymm a b) ∙ turned (cmp b a)
-
-not_below_itself : (a : Text) → is_lt (cmp a a) ≡ false
-not_below_itself a = ap is_lt (tied_itself nat_list_cmp_total a)
-
-not_below_on : (a b c : Text) → is_lt (cmp b a) ≡ false → is_lt (cmp c b) ≡ false → is_lt (cmp c a) ≡ false
-not_below_on a b c h k = lt_turned c a ∙ upto nat_list_cmp_total a b c (sym (lt_turned b a) ∙ h) (sym (lt_turned c b) ∙ k)
-
-not_both : (o : Ordering) → is_lt o ≡ true → is_gt o ≡ true → ⊥
-not_both Less h k = cc
-not_both Equal h k = cc
-not_both Greater h k = cc
-
-neither : (o : Ordering) → is_lt o ≡ false → is_gt o ≡ false → is_eq o ≡ true
-neither Less h k = cc
-neither Equal h k = refl
-neither Greater h k = cc
-
--- neither is below the other
-pub alike_from_not_below : (a b : Text) → is_lt (cmp a b) ≡ false → is_lt (cmp b a) ≡ false → a ≡ b
-alike_from_not_below a b h k = same a b (sym (is_eq-slice_cmp a b) ∙ neither (cmp a b) h (sym (lt_turned b a) ∙ k))
-
-some_same : (x y : Text) → Some x ≡ Some y → x ≡ y
-some_same x y e = cc
-
--- the least of a list is in it, and none there is below
-pub least_is : (xs : List Text) (n : Text) → least xs ≡ Some n → IsLeast (Contains xs) n
-least_is [] n h = cc
-least_is (x ∷ xs) n h = step (least xs) refl (λ o e. least_is xs o e)
-  where
-    first : ((m : Text) → Contains xs m → is_lt (cmp m x) ≡ false) → IsLeast (Contains (x ∷ xs)) x
-    first none = record {
-      holds = contains_head x xs;
-      below = λ m c. ⊎_elim (λ q. subst (λ (z : Text). is_lt (cmp z x) ≡ false) q (not_below_itself x)) (λ t. none m t) (contains_cases x xs m c);
-    }
-
-    not_above : (o : Text) → is_lt (cmp o x) ≡ true → (b : Bool) → is_lt (cmp x o) ≡ b → is_lt (cmp x o) ≡ false
-    not_above o e true f = absurd (not_both (cmp o x) e (sym (lt_turned x o) ∙ f))
-    not_above o e false f = f
-
-    pick : (o : Text) → IsLeast (Contains xs) o → (b : Bool) → is_lt (cmp o x) ≡ b → IsLeast (Contains (x ∷ xs)) (cond b o x)
-    pick o ih true e = record {
-      holds = contains_tail x xs o ih.holds;
-      below = λ m c. ⊎_elim (λ q. subst (λ (z : Text). is_lt (cmp z o) ≡ false) q (not_above o e (is_lt (cmp x o)) refl)) (λ t. ih.below m t)
-          (contains_cases x xs m c);
-    }
-    pick o ih false e = first (λ m t. not_below_on x o m e (ih.below m t))
-
-    step : (o : Option Text) → least xs ≡ o → ((o : Text) → least xs ≡ Some o → IsLeast (Contains xs) o) → IsLeast (Contains (x ∷ xs)) n
-    step None e ih =
-        let s : x ≡ n = some_same x n (subst (λ (o : Option Text). Some (lesser x o) ≡ Some n) e h) in
-        let nothing : xs ≡ [] = least_none xs e in
-        subst (λ (y : Text). IsLeast (Contains (x ∷ xs)) y) s
-        (first (λ m t. absurd (contains_none m (subst (λ (ys : List Text). Contains ys m) nothing t))))
-    step (Some o) e ih =
-        let s : cond (is_lt (cmp o x)) o x ≡ n = some_same (lesser x (Some o)) n (subst (λ (o : Option Text). Some (lesser x o) ≡ Some n) e h) in
-        subst (λ (y : Text). IsLeast (Contains (x ∷ xs)) y) s (pick o (ih o e) (is_lt (cmp o x)) refl)
-
--- and no other is
-pub least_is_least : (xs : List Text) (n : Text) → IsLeast (Contains xs) n → least xs ≡ Some n
-least_is_least xs n l = step (least xs) refl
-  where
-    step : (o : Option Text) → least xs ≡ o → least xs ≡ Some n
-    step None e = absurd (least_some xs n l.holds e)
-    step (Some m) e =
-        let k = least_is xs m e in
-        e ∙ ap (λ (x : Text). Some x) (alike_from_not_below m n (l.below m k.holds) (k.below n l.holds))
-
--- the least that is found one by one
 
 lesser_is : (x f : Text) → IsLeast (Contains (f ∷ x ∷ [])) (lesser x (Some f))
 lesser_is x f = step (is_lt (cmp f x)) refl
@@ -99,16 +14,12 @@ lesser_is x f = step (is_lt (cmp f x)) refl
     none : (m : Text) → Contains [] m → is_lt (cmp m x) ≡ false
     none m c = absurd (contains_none m c)
 
-    not_above : is_lt (cmp f x) ≡ true → (b : Bool) → is_lt (cmp x f) ≡ b → is_lt (cmp x f) ≡ false
-    not_above e true h = absurd (not_both (cmp f x) e (sym (lt_turned x f) ∙ h))
-    not_above e false h = h
-
     step : (b : Bool) → is_lt (cmp f x) ≡ b → IsLeast (Contains (f ∷ x ∷ [])) (cond b f x)
     step true e = record {
       holds = contains_head f (x ∷ []);
       below = λ m c. ⊎_elim
           (λ q. subst (λ (z : Text). is_lt (cmp z f) ≡ false) q (not_below_itself f))
-          (λ t. ⊎_elim (λ q. subst (λ (z : Text). is_lt (cmp z f) ≡ false) q (not_above e (is_lt (cmp x f)) refl)) (λ n. absurd (contains_none m n))
+          (λ t. ⊎_elim (λ q. subst (λ (z : Text). is_lt (cmp z f) ≡ false) q (not_above f x e)) (λ n. absurd (contains_none m n))
           (contains_cases x [] m t))
           (contains_cases f (x ∷ []) m c);
     }
@@ -169,13 +80,3 @@ found_is_least (x ∷ xs) = let found = found_least x xs in found.1 ∙ sym (lea
 pub found_append : (found : Option Text) (xs ys : List Text) → least_from found (xs ++ ys) ≡ least_from (least_from found xs) ys
 found_append found [] ys = refl
 found_append found (x ∷ xs) ys = found_append (Some (lesser x found)) xs ys
-
--- of what a list has
-pub least_of : (P : Text → Type 0) (xs : List Text) (n : Text) → ((m : Text) → Contains xs m → P m) → ((m : Text) → P m → Contains xs m) →
-    least xs ≡ Some n → IsLeast P n
-least_of P xs n to from h =
-    let l = least_is xs n h in
-    record { holds = to n l.holds; below = λ m p. l.below m (from m p) }
-
-pub none_of : (P : Text → Type 0) (xs : List Text) → ((m : Text) → P m → Contains xs m) → least xs ≡ None → (m : Text) → P m → ⊥
-none_of P xs from h m p = contains_none m (subst (λ (ys : List Text). Contains ys m) (least_none xs h) (from m p))

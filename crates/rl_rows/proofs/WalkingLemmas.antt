@@ -7,6 +7,7 @@ use Rattle.rl_view_spec.specs.Closure.{Text, Registered, row_of, deps_of, Leads}
 use Rattle.rl_view_spec.specs.Numbers.{number_of}
 use Rattle.rl_view_spec.specs.Progress.{name_at, HasDistinctNames}
 use Rattle.rl_view_spec.proofs.ChainsLemmas.{row_from_dep, same}
+use Rattle.rl_view_spec.proofs.PlacesLemmas.{name_there}
 use Rattle.rl_graph.specs.Graph.{Walks, Reaches}
 use Rattle.rl_rows.specs.Edges.{IsIndexed}
 use Rattle.rl_rows.proofs.EdgesLemmas.{number_found, number_is}
@@ -32,11 +33,8 @@ named_in (row ∷ rows) m h = step (λ g. named_in rows m g) (bytes_eq row.name 
         let n = rest (subst (λ (b : Bool). is_some (cond b (Some row) (find (λ row. bytes_eq row.name m) rows)) ≡ true) e h) in
         (suc n.0, omega (arith, n.1), n.2)
 
-name_is : (r : Registered) (c : ℕ) (row : Row) → slice_get r.rows c ≡ Some row → name_at r c ≡ row.name
-name_is r c row e = rw e refl
-
 pub named : (r : Registered) (m : Text) → is_some (row_of r m) ≡ true → (c : ℕ) × (c < length r.rows) × (name_at r c ≡ m)
-named r m h = let n = named_in r.rows m h in (n.0, n.1, name_is r n.0 n.2.0 n.2.1 ∙ n.2.2)
+named r m h = let n = named_in r.rows m h in (n.0, n.1, name_there r n.0 n.2.0 n.2.1 ∙ n.2.2)
 
 pub walk_from_leads : (r : Registered) (edges : List (List ℕ)) (chain : List Text) (a b : ℕ) → IsIndexed r edges → a < length r.rows →
     b < length r.rows → Leads r (name_at r a) chain (name_at r b) → Reaches edges a b

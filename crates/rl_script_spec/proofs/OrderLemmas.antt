@@ -1,17 +1,17 @@
 -- The summary depends on outcomes alone, and the steps of a script are lawful.
-use Rattle.std.proofs.Common.{◌≡◌, ℕ, List, [], ◌∷◌, ◌++◌, Bool, true, Option, Some, None, refl, ap, ap₂, subst, ◌∙◌, ⊎_elim}
+use Rattle.std.proofs.Common.{◌≡◌, ℕ, List, [], ◌∷◌, ◌++◌, Bool, Option, refl, ap, ap₂, ◌∙◌}
 use Rattle.std.proofs.Common.{nat_eq}
-use Rattle.std.specs.Prelude.{if◌then◌else◌, codes, filter, flat_map, is_none, decimal, length}
-use Rattle.std.specs.List.{list_any, list_all}
+use Rattle.std.specs.Prelude.{codes, filter, flat_map, decimal, length}
+use Rattle.std.specs.List.{list_any}
 use mathlib.Core.Path.{fun_ext}
-use Rattle.rl_view_spec.specs.Closure.{Text, Registered, Resolves, Refusal, row_of, resolves, refusal_of}
+use Rattle.rl_view_spec.specs.Closure.{Text, Registered, row_of, resolves}
 use Rattle.rl_view_spec.specs.Progress.{name_at, row_numbers, HasDistinctNames}
 use Rattle.rl_view_spec.specs.View.{View, Event, Answer, is_touched, first_of, log_of}
 use Rattle.rl_view_spec.specs.Headline.{IsLawful}
 use Rattle.rl_view_spec.specs.Laws.{AreLawful}
 use Rattle.rl_view_spec.specs.Order.{HaveSameOutcomes}
-use Rattle.rl_view_spec.proofs.ToolsLemmas.{each_all, contains_cases, contains_none, filter_contains}
-use Rattle.rl_view_spec.proofs.ResolveLemmas.{accepted_resolves, resolves_accepted}
+use Rattle.rl_view_spec.proofs.ToolsLemmas.{each_all, filter_contains}
+use Rattle.rl_view_spec.proofs.ResolveLemmas.{accepted_each_resolves}
 use Rattle.rl_view_spec.proofs.StatesLemmas.{headline}
 use Rattle.rl_view_spec.proofs.OrderLemmas.{state_by, same_row}
 use Rattle.rl_script_spec.specs.declared.Step.{Step}
@@ -44,21 +44,8 @@ same_summary number v one other distinct law law' h =
 
 -- ---- the steps of a script
 
-each_resolves : (r : Registered) (names : List Text) → refusal_of r names ≡ None → list_all (resolves r) names ≡ true
-each_resolves r names e = each_all (resolves r) names (λ name c.
-    ap is_none (resolves_accepted r (name ∷ []) (λ other d. ⊎_elim
-    (λ s. subst (λ (x : Text). Resolves r x) s (accepted_resolves r names (ap is_none e) name c)) (λ t. absurd (contains_none other t))
-    (contains_cases name [] other d))))
-
-using_lawful : (r : Registered) (names : List Text) → list_all (resolves r) (if is_none (refusal_of r names) then names else []) ≡ true
-using_lawful r names = step (refusal_of r names) refl
-  where
-    step : (o : Option Refusal) → refusal_of r names ≡ o → list_all (resolves r) (if is_none o then names else []) ≡ true
-    step None e = each_resolves r names e
-    step (Some refused) e = refl
-
 step_lawful : (r : Registered) (step : Step) → IsLawful r (event_of r step)
-step_lawful r (Using names) = using_lawful r names
+step_lawful r (Using names) = accepted_each_resolves r names
 step_lawful r (Load names) = each_all (resolves r) (filter (resolves r) names) (λ name c. (filter_contains (resolves r) names name c).1)
 step_lawful r (Impl key script) = refl
 step_lawful r (State name kind) = refl

@@ -1,9 +1,9 @@
 -- The steps of calls, summed.
-use Rattle.std.proofs.Common.{◌≡◌, ℕ, ◌+◌, ◌*◌, ◌≤◌, List, [], ◌∷◌, Bool, cond, ap, sym, ◌∙◌, arith}
+use Rattle.std.proofs.Common.{ℕ, ◌+◌, ◌*◌, ◌≤◌, List, [], ◌∷◌, cond, arith}
 use Rattle.std.specs.Prelude.{count_by, length, sum_by}
 use Rattle.std.proofs.lemmas.List.Sums.{sum_by-cons}
 use Rattle.rl_view_spec.specs.Closure.{Registered}
-use Rattle.rl_view_spec.specs.Progress.{Progress, HasDistinctNames, next_row}
+use Rattle.rl_view_spec.specs.Progress.{Progress, HasDistinctNames}
 use Rattle.rl_states.specs.Bound.{Call, Touch, Answer, FirstRun, NextRun, Ran, SetVersion, Costs, Counts, after_call, counts_steps, given}
 use Rattle.rl_states.specs.Changes.{fresh_progress}
 use Rattle.rl_states.specs.Credit.{credit, entries}

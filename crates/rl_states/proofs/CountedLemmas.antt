@@ -1,17 +1,15 @@
 -- What is held of rows, as it is read and written in cells.
-use Rattle.std.proofs.Common.{◌≡◌, ◌<◌, ℕ, List, [], ◌∷◌, Bool, false, Some, length}
-use Rattle.std.proofs.Common.{map, set, get_or, replicate, refl, sym, ◌∙◌, ap, ap₂, arith}
+use Rattle.std.proofs.Common.{◌≡◌, ℕ, List, [], ◌∷◌, Bool, false, Some, length}
+use Rattle.std.proofs.Common.{map, set, get_or, replicate, refl, ◌∙◌, ap, ap₂}
 use Rattle.std.specs.Prelude.{slice_get, option_map, Vec}
 use Rattle.std.specs.declared.alloc.Global.{Global}
-use Rattle.std.proofs.lemmas.List.{length-map, map-set}
+use Rattle.std.proofs.lemmas.List.{map-set}
 use Rattle.std.proofs.Math.Seq.{map-set_same}
 use Rattle.std.proofs.lemmas.Option.{slice_get-map}
 use Rattle.rl_graph.specs.Graph.{edge_lists, marked}
-use Rattle.rl_graph.specs.Marks.{Spreads}
 use Rattle.rl_states.specs.declared.cell.Cell.{Cell}
 use Rattle.rl_states.specs.declared.cell.Mark.{Mark}
 use Rattle.rl_states.specs.declared.standing.Standing.{Standing}
-use Rattle.rl_states.specs.Cells.{Seen}
 use Rattle.rl_states.specs.Counted.{Held, clean, clean_cell, held_in}
 use Rattle.rl_states.specs.Spoiled.{spoiled_in}
 use Rattle.rl_states.proofs.PassingLemmas.{mark_says}

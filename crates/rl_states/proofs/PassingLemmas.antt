@@ -1,6 +1,6 @@
 -- How failures are passed on: the rows whose failure is to be passed on are linked by their marks.
 use Rattle.std.proofs.Common.{◌≡◌, ◌≢◌, ℕ, suc, ◌+◌, ◌<◌, ◌≤◌, ◌⊎◌, List, [], ◌∷◌, ◌++◌, Bool, true, false, cond}
-use Rattle.std.proofs.Common.{length, map, set, Option, Some, None, refl, ap, sym, subst, ◌∙◌, inl, inr, ⊎_elim, append_assoc, option_map, arith}
+use Rattle.std.proofs.Common.{length, set, Option, Some, None, refl, ap, sym, subst, ◌∙◌, inl, inr, ⊎_elim, append_assoc, option_map, arith}
 use Rattle.std.proofs.Common.{length-append}
 use Rattle.std.specs.Prelude.{All, Contains, count_by, slice_get, sum_by}
 use Rattle.std.proofs.lemmas.Bool.{both_ways, ne_eqb, eq-eqb}

@@ -1,5 +1,5 @@
 -- What is read and written by accesses that count.
-use Rattle.std.specs.Prelude.{ℕ, List, Bool, false, None, map, Vec}
+use Rattle.std.specs.Prelude.{ℕ, List, false, None, map, Vec}
 use Rattle.std.specs.declared.alloc.Global.{Global}
 use Rattle.rl_graph.specs.Graph.{edge_lists}
 use Rattle.rl_states.specs.declared.cell.Cell.{Cell}

@@ -2,7 +2,7 @@
 use Rattle.std.proofs.Common.{◌≡◌, ℕ, zero, suc, ◌≤◌, List, Bool, true, false, ◌&&◌, ◌||◌, not, ◌⊎◌, Option, Some, None, refl, sym}
 use Rattle.std.proofs.Common.{subst, ◌∙◌, inl, inr, ⊎_elim, arith}
 use Rattle.std.specs.Prelude.{bytes_eq, is_some}
-use Rattle.std.proofs.lemmas.Bool.{and_from, or_left, or_right, both_ways, cases_Bool, not-true, not_from_false}
+use Rattle.std.proofs.lemmas.Bool.{and_from, or_left, or_parts, or_right, both_ways, cases_Bool, not-false, not-true, not_from_false}
 use Rattle.rl_view_spec.specs.Closure.{Text, Registered, InClosure, Resolves, in_closure, is_skipped}
 use Rattle.rl_view_spec.specs.View.{View, Event, Answer, Implementation, Missing, Failed, GivenUp, all_answered, all_in_closure, all_others, first_of}
 use Rattle.rl_view_spec.specs.View.{is_broken, is_good, is_implementation, is_lost, is_missing, is_thrown, is_touched, throws_at}
@@ -23,17 +23,9 @@ implemented (Some Missing) h l = cc
 implemented (Some Failed) h l = cc
 implemented (Some GivenUp) h l = cc
 
-or_false : (a b : Bool) → (a || b) ≡ false → (a ≡ false) × (b ≡ false)
-or_false true b h = cc
-or_false false b h = (refl, h)
-
 and_false : (a b : Bool) → (a && b) ≡ false → b ≡ true → a ≡ false
 and_false true b h t = sym t ∙ h
 and_false false b h t = refl
-
-not_false : (b : Bool) → not b ≡ false → b ≡ true
-not_false true h = refl
-not_false false h = cc
 
 -- the last of three, where the first does not hold
 of_three : (a b c : Bool) → a ≡ true → (not a || b || c) ≡ true → (b ≡ true) ⊎ (c ≡ true)
@@ -73,7 +65,7 @@ module _ (v : View) (past : List Event) (lawful : AreLawful v past) (answered : 
   sound_within (suc n) name touched few sound = ⊎_elim
       (λ skipped. or_left (is_skipped r name) _ skipped)
       (λ some.
-      let whole = or_false (is_lost (first_of v past name)) (is_thrown v past name) (sound name (closure_itself r name)) in
+      let whole = or_parts (is_lost (first_of v past name)) (is_thrown v past name) (sound name (closure_itself r name)) in
       let others : all_others r name (is_good v past) ≡ true =
       each_closure r name (λ other. bytes_eq other name || is_good v past other) (λ other has c.
       let m : InClosure r name other = led_in_closure r name other c in
@@ -93,7 +85,7 @@ module _ (v : View) (past : List Event) (lawful : AreLawful v past) (answered : 
       all_in_closure r name (is_good v past) ≡ true
   all_sound name touched none =
       let res : Resolves r name = touched_resolves v past name lawful touched in
-      let sound : all_in_closure r name (λ member. not (is_broken v past member)) ≡ true = not_false _ none in
+      let sound : all_in_closure r name (λ member. not (is_broken v past member)) ≡ true = not-false _ none in
       each_closure r name (is_good v past) (λ member has c.
       let m : InClosure r name member = led_in_closure r name member c in
       sound_within (count (in_closure r member) r.rows) member (touched_on v past name member touched m) (omega arith)

@@ -1,28 +1,13 @@
 -- A chain can be followed in as many steps as there are rows.
-use Rattle.std.proofs.Common.{◌≡◌, ℕ, zero, suc, ◌+◌, ◌≤◌, List, [], ◌∷◌, Bool, true, false, cond, ◌&&◌, ◌||◌, not, ◌⊎◌}
+use Rattle.std.proofs.Common.{◌≡◌, ℕ, zero, suc, ◌+◌, ◌≤◌, List, [], ◌∷◌, Bool, true, false, cond, ◌&&◌, not, ◌⊎◌}
 use Rattle.std.proofs.Common.{length, Option, Some, None, refl, ap, sym, subst, ◌∙◌, inl, inr, ⊎_elim, arith}
 use Rattle.std.specs.Prelude.{bytes_eq, Contains, find, is_some}
 use Rattle.std.specs.List.{list_any}
+use Rattle.std.proofs.lemmas.Bool.{and_from, or_cases, or_left, or_right}
 use Rattle.std.proofs.lemmas.Slice.Eq.{bytes_eq-Decides}
 use Rattle.std.proofs.lemmas.List.Folds.{list_any_at}
 use Rattle.rl_names.specs.declared.row.Row.{Row}
 use Rattle.rl_view_spec.specs.Closure.{Text, Registered, row_of, deps_of, deps_of_row, Leads, InClosure, reaches, in_closure}
-
-or_cases : (a b : Bool) → (a || b) ≡ true → (a ≡ true) ⊎ (b ≡ true)
-or_cases true b h = inl refl
-or_cases false b h = inr h
-
-or_left : (a b : Bool) → a ≡ true → (a || b) ≡ true
-or_left true b h = refl
-or_left false b h = cc
-
-or_right : (a b : Bool) → b ≡ true → (a || b) ≡ true
-or_right true b h = refl
-or_right false b h = h
-
-and_both : (a b : Bool) → a ≡ true → b ≡ true → (a && b) ≡ true
-and_both true b h k = k
-and_both false b h k = cc
 
 pub same : (a b : Text) → bytes_eq a b ≡ true → a ≡ b
 same a b h = (bytes_eq-Decides a b).0 h
@@ -128,7 +113,7 @@ last_leave r p x name (next ∷ rest) last l a = ⊎_elim
         AllPass (without p x) name (next ∷ rest) ⊎ ((next : Text) × (rest : List Text) × Contains (deps_of r x) next × Leads r next rest last
         × AllPass (without p x) next rest)
     here true e avoids = inr (next, rest, subst (λ (y : Text). Contains (deps_of r y) next) (same name x e) l.0, l.1, avoids)
-    here false e avoids = inl (and_both (p name) (not (bytes_eq name x)) a.0 (ap not e), avoids)
+    here false e avoids = inl (and_from (p name) (not (bytes_eq name x)) a.0 (ap not e), avoids)
 
 -- a chain that leaves only names that pass is followed in as many steps as there are such rows
 reaches_within : (r : Registered) (n : ℕ) (p : Text → Bool) (name : Text) (chain : List Text) (last : Text) → count p r.rows ≤ n →

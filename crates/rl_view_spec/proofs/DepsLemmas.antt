@@ -16,7 +16,8 @@ use Rattle.rl_view_spec.proofs.PlacesLemmas.{name_there, number_in, number_withi
 use Rattle.rl_view_spec.proofs.StatesLemmas.{iff_same}
 use Rattle.rl_view_spec.proofs.DirectLemmas.{direct_each, each_direct}
 
-contains_filter_map : {X Y : Type 0} (h : X → Option Y) (xs : List X) (x : X) (y : Y) → Contains xs x → h x ≡ Some y → Contains (filter_map h xs) y
+-- what has a value has it in the list of values, and the other way round
+pub contains_filter_map : {X Y : Type 0} (h : X → Option Y) (xs : List X) (x : X) (y : Y) → Contains xs x → h x ≡ Some y → Contains (filter_map h xs) y
 contains_filter_map h [] x y c e = absurd (contains_none x c)
 contains_filter_map {X = X} {Y = Y} h (z ∷ xs) x y c e = ⊎_elim (λ s. here (h z) (ap h s ∙ e)) (λ t. there (h z) (contains_filter_map h xs x y t e))
     (contains_cases z xs x c)
@@ -29,7 +30,7 @@ contains_filter_map {X = X} {Y = Y} h (z ∷ xs) x y c e = ⊎_elim (λ s. here 
     there None t = t
     there (Some w) t = contains_tail w (filter_map h xs) y t
 
-filter_map_contains : {X Y : Type 0} (h : X → Option Y) (xs : List X) (y : Y) → Contains (filter_map h xs) y →
+pub filter_map_contains : {X Y : Type 0} (h : X → Option Y) (xs : List X) (y : Y) → Contains (filter_map h xs) y →
     (x : X) × Contains xs x × (h x ≡ Some y)
 filter_map_contains h [] y c = absurd (contains_none y c)
 filter_map_contains {X = X} {Y = Y} h (z ∷ xs) y c = step (h z) refl c (λ t. filter_map_contains h xs y t)

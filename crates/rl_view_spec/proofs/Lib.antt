@@ -3,6 +3,7 @@ pub mod AnsweredLemmas
 pub mod ChainsLemmas
 pub mod DepsLemmas
 pub mod DirectLemmas
+pub mod LeastLemmas
 pub mod LogLemmas
 pub mod ObservedLemmas
 pub mod OnceLemmas

@@ -3,6 +3,7 @@ use Rattle.std.proofs.Common.{◌≡◌, ◌≢◌, ℕ, zero, suc, ◌<◌, Lis
 use Rattle.std.proofs.Common.{nat_eq, length, map, get_or, Option, Some, None, refl, ap, sym, subst, ◌∙◌, arith, eq-eqb, append-nil, append_assoc}
 use Rattle.std.specs.Prelude.{find, AllPairs, option_to_list}
 use Rattle.std.specs.List.{list_any}
+use Rattle.std.proofs.lemmas.Bool.{or_left, or_right}
 use Rattle.std.proofs.lemmas.List.Quantifiers.{all_pairs_push}
 use Rattle.std.proofs.lemmas.Grind.{common_steps}
 use Rattle.rl_view_spec.specs.Progress.{Progress, has_run, is_runnable, next_row, row_numbers, name_at, is_touched_at, is_skipped_at, is_impl, outcome_at}
@@ -35,14 +36,6 @@ not_run t row h ran =
     let unrun : not (has_run t row) ≡ true = and_right (is_touched_at t row && not (is_skipped_at t.registered row) && is_impl (outcome_at t row))
     (not (has_run t row)) first in
     let both : not true ≡ true = subst (λ (b : Bool). not b ≡ true) ran unrun in cc
-
-or_left : (a b : Bool) → a ≡ true → (a || b) ≡ true
-or_left true b h = refl
-or_left false b h = cc
-
-or_right : (a b : Bool) → b ≡ true → (a || b) ≡ true
-or_right true b h = refl
-or_right false b h = h
 
 -- a row of the log ran
 in_log_ran : (f : ℕ → Bool) (log : List ℕ) (row k : ℕ) → k < length log → get_or log k row ≡ row →

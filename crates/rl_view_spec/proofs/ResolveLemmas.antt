@@ -1,17 +1,19 @@
 -- What resolves, and what a refusal says.
 use Rattle.std.proofs.Common.{◌≡◌, List, [], ◌∷◌, ◌++◌, Bool, true, ◌&&◌, not, map, Option, Some, None, refl, ap, sym, subst, ◌∙◌}
 use Rattle.std.proofs.Common.{⊎_elim}
-use Rattle.std.specs.Prelude.{bytes_eq, Contains, filter, flat_map, is_none}
-use Rattle.std.specs.List.{list_any, AllByRecursion}
+use Rattle.std.specs.Prelude.{bytes_eq, Contains, filter, flat_map, if◌then◌else◌, is_none}
+use Rattle.std.specs.List.{list_all, list_any, AllByRecursion}
 use Rattle.std.proofs.lemmas.Bool.{and_from, and_parts, or_cases, or_left, or_right, both_ways, true_from_ne_false, not_from_false, not-true}
 use Rattle.std.proofs.lemmas.List.Elements.{Contains-append_left, Contains-append_right}
 use Rattle.rl_names.specs.declared.row.Row.{Row}
 use Rattle.rl_view_spec.specs.Closure.{Text, Registered, row_of, has_row, deps_of, deps_of_row, Leads, InClosure, IsCyclic, Resolves, in_closure, in_closures}
-use Rattle.rl_view_spec.specs.Closure.{leads_back, mentioned, least, or_cycle, refusal_of, resolves}
+use Rattle.rl_view_spec.specs.Closure.{Refusal, leads_back, mentioned, least, or_cycle, refusal_of, resolves}
+use Rattle.rl_view_spec.specs.Requests.{accepted}
 use Rattle.rl_view_spec.specs.View.{View, Event, touches, is_touched}
 use Rattle.rl_view_spec.specs.Headline.{IsLawful}
 use Rattle.rl_view_spec.proofs.ChainsLemmas.{reaches_from_led, led_in_closure}
-use Rattle.rl_view_spec.proofs.ToolsLemmas.{any_one, one_any, all_each, contains_flat_map, found_in, filter_none, filter_contains, contains_head, contains_none}
+use Rattle.rl_view_spec.proofs.ToolsLemmas.{any_one, one_any, all_each, each_all, contains_cases, contains_flat_map, found_in, filter_none}
+use Rattle.rl_view_spec.proofs.ToolsLemmas.{filter_contains, contains_head, contains_none}
 
 -- one chain after another
 pub leads_on : (r : Registered) (a : Text) (chain : List Text) (b : Text) (more : List Text) (c : Text) → Leads r a chain b → Leads r b more c →
@@ -130,6 +132,19 @@ resolves_accepted r names each =
 
 pub resolves_itself : (r : Registered) (name : Text) → resolves r name ≡ true → Resolves r name
 resolves_itself r name h = accepted_resolves r (name ∷ []) h name (contains_head name [])
+
+-- what a request that is not refused names, resolves by itself
+pub accepted_each_resolves : (r : Registered) (names : List Text) → list_all (resolves r) (accepted r names) ≡ true
+accepted_each_resolves r names = step (refusal_of r names) refl
+  where
+    one : refusal_of r names ≡ None → (name : Text) → Contains names name → resolves r name ≡ true
+    one e name c = ap is_none (resolves_accepted r (name ∷ []) (λ other d. ⊎_elim
+        (λ s. subst (λ (x : Text). Resolves r x) s (accepted_resolves r names (ap is_none e) name c)) (λ t. absurd (contains_none other t))
+        (contains_cases name [] other d)))
+
+    step : (o : Option Refusal) → refusal_of r names ≡ o → list_all (resolves r) (if is_none o then names else []) ≡ true
+    step None e = each_all (resolves r) names (one e)
+    step (Some refused) e = refl
 
 -- what resolves has members that resolve
 pub member_resolves : (r : Registered) (name member : Text) → Resolves r name → InClosure r name member → Resolves r member

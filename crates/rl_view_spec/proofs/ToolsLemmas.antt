@@ -5,7 +5,7 @@ use Rattle.std.specs.Prelude.{Contains, find, filter, slice_get, flat_map}
 use Rattle.std.specs.List.{list_any, list_all, enumerate_from}
 use Rattle.std.proofs.lemmas.Bool.{and_from, or_cases, both_ways, cases_Bool, true_from_ne_false}
 use Rattle.std.proofs.lemmas.List.Folds.{list_any_at, list_all_at}
-use Rattle.std.proofs.lemmas.List.Elements.{Contains-append_left, Contains-append_right}
+use Rattle.std.proofs.lemmas.List.Elements.{Contains-append_cases, Contains-append_left, Contains-append_right}
 
 pub contains_head : {X : Type 0} (x : X) (xs : List X) → Contains (x ∷ xs) x
 contains_head x xs = (0, omega arith, refl)
@@ -52,6 +52,14 @@ contains_flat_map f (z ∷ xs) x y c d = ⊎_elim
     (λ e. Contains-append_left (f z) (flat_map f xs) y (subst (λ w. Contains (f w) y) (sym e) d))
     (λ t. Contains-append_right (f z) (flat_map f xs) y (contains_flat_map f xs x y t d))
     (contains_cases z xs x c)
+
+-- what a list of lists has, one of them has
+pub flat_map_contains : {X Y : Type 0} (f : X → List Y) (xs : List X) (y : Y) → Contains (flat_map f xs) y → (x : X) × Contains xs x × Contains (f x) y
+flat_map_contains f [] y c = absurd (contains_none y c)
+flat_map_contains f (x ∷ xs) y c = ⊎_elim
+    (λ h. (x, contains_head x xs, h))
+    (λ t. let m = flat_map_contains f xs y t in (m.0, contains_tail x xs m.0 m.1, m.2))
+    (Contains-append_cases (f x) (flat_map f xs) y c)
 
 -- what is found passes, and stands somewhere
 pub found_place : {X : Type 0} (p : X → Bool) (xs : List X) (x : X) → find p xs ≡ Some x → (k : ℕ) × (slice_get xs k ≡ Some x) × (p x ≡ true)

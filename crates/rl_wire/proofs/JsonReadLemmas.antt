@@ -1,6 +1,7 @@
 -- What was read, beside the values that it is.
 use Rattle.std.proofs.Common.{◌≡◌, ℕ, Bool, true, false, List, [], ◌∷◌, ◌++◌, map, Vec, Global, String, BTreeMap, Less, string_bytes, nat_cmp}
-use Rattle.std.proofs.Common.{Option, Some, None, option_map, option_to_list, IsUtf8, refl, sym, ap, ◌∙◌}
+use Rattle.std.proofs.Common.{Option, Some, None, option_map, option_to_list, IsUtf8, refl, sym, ap, subst, ◌∙◌}
+use Rattle.std.specs.Prelude.{⊤}
 use Rattle.std.specs.Cmp.Lexicographic.{slice_cmp}
 use Rattle.std.specs.List.{AllByRecursion}
 use Rattle.std.specs.List.Sorted.{IsStrictlySortedBy}
@@ -8,7 +9,7 @@ use Rattle.std.specs.Map.{keys_of}
 use Rattle.std.specs.Str.{is_utf8}
 use Rattle.std.specs.String.{string_cmp}
 use Rattle.std.proofs.lemmas.Str.{IsUtf8-from_is_utf8, is_utf8-from_IsUtf8}
-use Rattle.serde_json.specs.Data.{Data, array}
+use Rattle.serde_json.specs.Data.{Data, Members, array, member, no_members}
 use Rattle.serde_json.specs.Read.{read}
 use Rattle.serde_json.specs.Find.{as_array, as_object, as_str}
 use Rattle.serde_json.specs.View.{view, items_of as items_of_view, items_view, members_view}
@@ -16,10 +17,10 @@ use Rattle.serde_json.specs.declared.value.Value.{Value, Array, Object}
 use Rattle.serde_json.proofs.Views.{view-Array, view-Object, Entry}
 use Rattle.rl_names.specs.declared.part.Message.{Message}
 use Rattle.rl_names.specs.declared.part.Source.{Source}
-use Rattle.rl_wire.specs.Message.{IsBelow, AreAscending}
+use Rattle.rl_wire.specs.Message.{AreAscending}
 use Rattle.rl_wire.specs.Arguments.{listed, list_in}
 use Rattle.rl_wire.specs.Reading.{messages_among}
-use Rattle.rl_wire.specs.Startup.{IsBefore, AreOrdered}
+use Rattle.rl_wire.specs.Startup.{AreOrdered}
 use Rattle.rl_wire.specs.StartupReading.{sources_among}
 
 no_list : (text : List ℕ) (b : Bool) → is_utf8 text ≡ b → (IsUtf8 text → read text ≡ None) → None ≡ list_in text
@@ -56,60 +57,45 @@ pub object_read : (value : Value) (members : BTreeMap (String Global) Value) →
     Some (members_view members.entries) ≡ as_object (view value)
 object_read value members same = sym (ap as_object (ap view same ∙ view-Object members))
 
--- ---- messages in the order of an object's keys
+-- ---- what is made of an object's texts stands in the order of its keys
 
-with_text : List ℕ → Option (List ℕ) → List Message → List Message
-with_text key o ms = option_to_list (option_map (λ text. record { key = key; text = text }) o) ++ ms
+module _ {X : Type 0} (key : X → List ℕ) (make : List ℕ → List ℕ → X) (keyed : (name text : List ℕ) → key (make name text) ≡ name) where
+  -- this name stands before the key of each
+  abbrev Below : List ℕ → List X → Type 0
+  Below name xs = AllByRecursion (λ (x : X). slice_cmp nat_cmp name (key x) ≡ Less) xs
 
-below_more : (k key : List ℕ) (o : Option (List ℕ)) (ms : List Message) → slice_cmp nat_cmp k key ≡ Less → IsBelow k ms →
-    IsBelow k (with_text key o ms)
-unfolding with_text
-below_more k key None ms is below = below
-below_more k key (Some text) ms is below = (is, below)
+  abbrev Ascends : List X → Type 0
+  Ascends [] = ⊤
+  Ascends (x ∷ xs) = Below (key x) xs × Ascends xs
 
-ascending_more : (key : List ℕ) (o : Option (List ℕ)) (ms : List Message) → IsBelow key ms → AreAscending ms → AreAscending (with_text key o ms)
-unfolding with_text
-ascending_more key None ms below ascending = ascending
-ascending_more key (Some text) ms below ascending = (below, ascending)
+  abbrev made : Members → List X
+  made no_members = []
+  made (member name d ms) = option_to_list (option_map (make name) (as_str d)) ++ made ms
 
-keys_below : (k : String Global) (es : List Entry) → AllByRecursion (λ y. string_cmp k y ≡ Less) (keys_of es) →
-    IsBelow (string_bytes k) (messages_among (members_view es))
-unfolding with_text
-keys_below k [] above = tt
-keys_below k (e ∷ es) above = below_more (string_bytes k) (string_bytes e.0) (as_str (view e.1)) (messages_among (members_view es)) above.0
-    (keys_below k es above.1)
+  below_more : (k name : List ℕ) (o : Option (List ℕ)) (xs : List X) → slice_cmp nat_cmp k name ≡ Less → Below k xs →
+      Below k (option_to_list (option_map (make name) o) ++ xs)
+  below_more k name None xs is below = below
+  below_more k name (Some text) xs is below = (subst (λ (n : List ℕ). slice_cmp nat_cmp k n ≡ Less) (sym (keyed name text)) is, below)
+
+  ascends_more : (name : List ℕ) (o : Option (List ℕ)) (xs : List X) → Below name xs → Ascends xs →
+      Ascends (option_to_list (option_map (make name) o) ++ xs)
+  ascends_more name None xs below ascends = ascends
+  ascends_more name (Some text) xs below ascends = (subst (λ (n : List ℕ). Below n xs) (sym (keyed name text)) below, ascends)
+
+  made_below : (k : String Global) (es : List Entry) → AllByRecursion (λ y. string_cmp k y ≡ Less) (keys_of es) →
+      Below (string_bytes k) (made (members_view es))
+  made_below k [] above = tt
+  made_below k (e ∷ es) above =
+      below_more (string_bytes k) (string_bytes e.0) (as_str (view e.1)) (made (members_view es)) above.0 (made_below k es above.1)
+
+  made_ascends : (es : List Entry) → IsStrictlySortedBy string_cmp (keys_of es) → Ascends (made (members_view es))
+  unfolding IsStrictlySortedBy
+  made_ascends [] ordered = tt
+  made_ascends (e ∷ es) ordered =
+      ascends_more (string_bytes e.0) (as_str (view e.1)) (made (members_view es)) (made_below e.0 es ordered.0) (made_ascends es ordered.1)
 
 pub messages_ascend : (es : List Entry) → IsStrictlySortedBy string_cmp (keys_of es) → AreAscending (messages_among (members_view es))
-unfolding with_text IsStrictlySortedBy
-messages_ascend [] ordered = tt
-messages_ascend (e ∷ es) ordered =
-    ascending_more (string_bytes e.0) (as_str (view e.1)) (messages_among (members_view es)) (keys_below e.0 es ordered.0) (messages_ascend es ordered.1)
-
--- ---- sources in the order of an object's keys
-
-named : List ℕ → Option (List ℕ) → List Source → List Source
-named name o ss = option_to_list (option_map (λ url. record { name = name; url = url }) o) ++ ss
-
-before_more : (k name : List ℕ) (o : Option (List ℕ)) (ss : List Source) → slice_cmp nat_cmp k name ≡ Less → IsBefore k ss →
-    IsBefore k (named name o ss)
-unfolding named
-before_more k name None ss is before = before
-before_more k name (Some url) ss is before = (is, before)
-
-ordered_more : (name : List ℕ) (o : Option (List ℕ)) (ss : List Source) → IsBefore name ss → AreOrdered ss → AreOrdered (named name o ss)
-unfolding named
-ordered_more name None ss before ordered = ordered
-ordered_more name (Some url) ss before ordered = (before, ordered)
-
-names_before : (k : String Global) (es : List Entry) → AllByRecursion (λ y. string_cmp k y ≡ Less) (keys_of es) →
-    IsBefore (string_bytes k) (sources_among (members_view es))
-unfolding named
-names_before k [] above = tt
-names_before k (e ∷ es) above = before_more (string_bytes k) (string_bytes e.0) (as_str (view e.1)) (sources_among (members_view es)) above.0
-    (names_before k es above.1)
+messages_ascend es ordered = made_ascends (λ (m : Message). m.key) (λ name text. record { key = name; text = text }) (λ name text. refl) es ordered
 
 pub sources_ordered : (es : List Entry) → IsStrictlySortedBy string_cmp (keys_of es) → AreOrdered (sources_among (members_view es))
-unfolding named IsStrictlySortedBy
-sources_ordered [] ordered = tt
-sources_ordered (e ∷ es) ordered =
-    ordered_more (string_bytes e.0) (as_str (view e.1)) (sources_among (members_view es)) (names_before e.0 es ordered.0) (sources_ordered es ordered.1)
+sources_ordered es ordered = made_ascends (λ (s : Source). s.name) (λ name text. record { name = name; url = text }) (λ name text. refl) es ordered

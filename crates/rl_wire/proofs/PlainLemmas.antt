@@ -3,7 +3,7 @@ use Rattle.std.proofs.Common.{◌≡◌, ℕ, zero, suc, ◌+◌, ◌%◌, ◌^�
 use Rattle.std.proofs.Common.{◌∷◌, ◌++◌, IsUtf8, inl, inr, refl, arith}
 use Rattle.std.specs.Prelude.{⊤}
 use Rattle.std.specs.List.{AllByRecursion, list_all}
-use Rattle.std.proofs.lemmas.Bool.{and_parts, cases_lt, cases_eq}
+use Rattle.std.proofs.lemmas.Bool.{and_from, and_parts, cases_lt, cases_eq}
 use Rattle.std.proofs.lemmas.Bool.Decides.{nat_tests}
 use Rattle.std.proofs.lemmas.Str.{IsUtf8-append, IsUtf8-nil, IsUtf8-from_ascii}
 use Rattle.std.proofs.lemmas.Fmt.{decimal_by_steps, IsAscii-decimal}
@@ -19,12 +19,9 @@ use Rattle.rl_wire.specs.Arguments.{is_line_end}
 abbrev pub no_end : List ℕ → Bool
 no_end bytes = list_all (λ b. not (is_line_end b)) bytes
 
-both_true : (a b : Bool) → a ≡ true → b ≡ true → (a && b) ≡ true
-both_true a b h k = rw (h, k) refl
-
 pub no_end-append : (xs ys : List ℕ) → no_end xs ≡ true → no_end ys ≡ true → no_end (xs ++ ys) ≡ true
 no_end-append [] ys a b = b
-no_end-append (x ∷ xs) ys a b = let p = and_parts _ _ a in both_true _ _ p.0 (no_end-append xs ys p.1 b)
+no_end-append (x ∷ xs) ys a b = let p = and_parts _ _ a in and_from _ _ p.0 (no_end-append xs ys p.1 b)
 
 -- ---- escapes
 

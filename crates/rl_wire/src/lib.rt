@@ -15,7 +15,7 @@ mod tests;
 mod values;
 
 pub use error::WireError;
-pub use line::{push_implementation, push_state};
+pub use line::{push_implementation, push_payload, push_state};
 pub use part::{Part, write_answer, write_part};
 pub use payload::payload_text;
 pub use read::{read_answer, read_part, reading_laws};

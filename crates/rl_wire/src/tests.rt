@@ -7,8 +7,8 @@ ghost use Rattle.rl_wire.specs.Line.{IsInOrder};
 ghost use Rattle.rl_wire.specs.Message.{AreAscending};
 
 use crate::{
-    Message, Part, StateKind, payload_text, push_implementation, push_state, write_answer,
-    write_part,
+    Message, Part, StateKind, payload_text, push_implementation, push_payload, push_state,
+    write_answer, write_part,
 };
 use rl_names::{Name, NoMemory, Seq, Text, Version};
 use std::alloc::Global;
@@ -133,6 +133,19 @@ fn an_implementation_goes_last(rt: HostRuntime) -> Result<(), Fail> {
     let mut body = String::from_str(alloc, "before\n")?;
     push_implementation(alloc, &mut body, "a", version, "a()\n", "", &[])?;
     let wanted = format!(in alloc; "before\n{MODULE_LINE}\n")?;
+    assert_eq!(rt; body.as_str(), wanted.as_str());
+    Ok(())
+}
+
+#[test]
+fn a_payload_goes_into_its_line(rt: HostRuntime) -> Result<(), Fail> {
+    let alloc = rt.alloc();
+    let version = Version::read(b"y3ph2").ok_or("no version")?;
+    let messages = two_messages(alloc)?;
+    let payload = payload_text(alloc, "", "b{}\n", messages.as_slice())?;
+    let mut body = String::from_str(alloc, "before\n")?;
+    push_payload(alloc, &mut body, "m\"", version, payload.as_str())?;
+    let wanted = format!(in alloc; "before\n{MESSAGES_LINE}\n")?;
     assert_eq!(rt; body.as_str(), wanted.as_str());
     Ok(())
 }

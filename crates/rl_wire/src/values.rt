@@ -77,6 +77,16 @@ pub(crate) fn write_payload(
     write_messages(json, messages)
 }
 
+/// Adds a text as a JSON string.
+pub(crate) fn add_text(alloc: Global, out: &mut String, text: &str) -> Result<(), NoMemory>
+    ensures { OnOk result (string_bytes out.new ≡ string_bytes out.old ++ arguments_text (string text.now ∷ [])) }
+{
+    let mut json = take_out(alloc, out);
+    json.string(text)?;
+    *out = text_of(json);
+    Ok(())
+}
+
 /// Adds the key of a module and what the module brings, with commas between them.
 pub(crate) fn add_module(
     alloc: Global,

@@ -214,7 +214,11 @@ fn what_is_told_of_definitions(rt: HostRuntime) -> Result<(), Fail> {
         ),
         (
             "modules.\"\" = 3",
-            "\"wiki.toml\": the module or the field \"\" is unknown or has a bad value (12)",
+            "\"wiki.toml\": module \"\" is no table (12)",
+        ),
+        (
+            "modules.\"\".x = 3",
+            "\"wiki.toml\": module \"\" has the field \"x\", which is unknown or has a bad value (12)",
         ),
         (
             "modules.a.x = 3",

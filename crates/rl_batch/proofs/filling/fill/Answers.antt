@@ -1,26 +1,5 @@
-use Rattle.std.proofs.Common.{
-  ◌≡◌,
-  ◌<◌,
-  ◌≤◌,
-  ◌+◌,
-  ◌-◌,
-  ◌&&◌,
-  ◌++◌,
-  ◌∷◌,
-  [],
-  ℕ,
-  List,
-  true,
-  length,
-  get_or,
-  map,
-  take,
-  ap,
-  sym,
-  ◌∙◌,
-  cond,
-  arith,
-}
+use Rattle.std.proofs.Common.{◌≡◌, ◌<◌, ◌≤◌, ◌+◌, ◌-◌, ◌&&◌, ◌++◌, ◌∷◌, [], ℕ, List, true, length, get_or}
+use Rattle.std.proofs.Common.{map, take, ap, sym, ◌∙◌, cond, arith}
 use Rattle.std.specs.Borrow.{Bor}
 use Rattle.std.specs.Prelude.{bytes_eq, nat_le}
 use Rattle.std.specs.Ordering.{nat_cmp, is_eq}

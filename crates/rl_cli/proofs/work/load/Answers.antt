@@ -6,6 +6,6 @@ use Rattle.rl_cli.proofs.work.load.Goals as goal
 
 pub returns : goal.returns
 returns c =
-    query_refused c.as_bytes.result.now c.args.query.now (reading c.args.definitions.now) c.in-Ok.catalog
-    (refusal_told c.in-Err-answer.error) (fault_told c.of_query.result) c.in-Ok.ensures c.as_bytes.ensures.value
-    c.in-Err-answer.ensures.answer c.of_query.ensures
+    query_refused c.args.query.now (reading c.args.definitions.now) c.in-Ok.catalog
+    (refusal_told c.in-Err-nobodys_answer.error) (fault_told c.of_query.result) c.in-Ok.ensures
+    c.in-Err-nobodys_answer.ensures c.of_query.ensures

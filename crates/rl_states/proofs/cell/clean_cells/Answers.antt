@@ -1,4 +1,4 @@
-use Rattle.std.proofs.Common.{◌<◌, ◌∙◌, length, sym, arith}
+use Rattle.std.proofs.Common.{◌<◌, length, sym, arith}
 use Rattle.std.proofs.lemmas.List.{map_more}
 use Rattle.rl_states.specs.Counted.{clean_cell}
 use Rattle.rl_states.proofs.cell.clean_cells.Goals as goal

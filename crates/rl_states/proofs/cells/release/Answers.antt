@@ -1,10 +1,10 @@
-use Rattle.std.proofs.Common.{◌≡◌, ◌<◌, ◌-◌, ℕ, List, length, set, get_or, take, sym, subst, ◌∙◌, ap, arith}
+use Rattle.std.proofs.Common.{◌≡◌, ◌<◌, ◌-◌, ℕ, List, length, set, get_or, take, sym, ◌∙◌, ap, arith}
 use Rattle.std.specs.Prelude.{slice_get}
 use Rattle.std.proofs.lemmas.Option.{get_or_from_slice_get, slice_get_within}
 use Rattle.rl_states.specs.declared.standing.Standing.{Standing}
 use Rattle.rl_graph.specs.Graph.{next_in}
 use Rattle.rl_states.specs.Cells.{Seen}
-use Rattle.rl_states.specs.Standings.{by_place, release_at}
+use Rattle.rl_states.specs.Standings.{release_at}
 use Rattle.rl_states.proofs.StandingsLemmas.{release_none, release_step, release_room, all_rows, length_places}
 use Rattle.rl_states.proofs.cells.release.Goals as goal
 

@@ -1,6 +1,7 @@
 use Rattle.std.proofs.Common.{ℕ, List, [], Some, ap, ◌∙◌}
 use Rattle.toml.specs.View.{view, members_view}
 use Rattle.toml.proofs.Views.{Entry}
+use Rattle.rl_defs.specs.declared.error.FieldKind.TheVariants.{OfFile}
 use Rattle.rl_defs.specs.Breach.{unknown_among}
 use Rattle.rl_defs.specs.Fields.{InWiki, fields_at, is_wiki_field}
 use Rattle.rl_defs.specs.Refusal.{UnknownField}
@@ -16,7 +17,7 @@ returns-then-not-branch-clause-told c =
     ∙ ap (λ (l : List Entry). unknown_among (fields_at InWiki (members_view l))) c.into_iter-key-iterator.ensures.into_iter_gives.0)
     c.in-Some.ensures.steps
     (c.in_ok-take_of_wiki.ensures.known ∙ ap (λ (k : List ℕ). is_wiki_field k (view c.in-Some.value)) c.as_str.ensures.value) c.if-not-branch.true
-    (c.in_ok-unknown.ensures ∙ ap (λ (k : List ℕ). Some (UnknownField [] k)) c.as_str-then-not-branch.ensures.value)
+    (c.in_ok-unknown.ensures ∙ ap (λ (k : List ℕ). Some (UnknownField OfFile [] k)) c.as_str-then-not-branch.ensures.value)
 
 pub fields-preserved : goal.fields-preserved
 fields-preserved c =

@@ -6,7 +6,6 @@ use Rattle.rl_view_spec.specs.Progress.{Progress}
 use Rattle.rl_view_spec.specs.View.{log_of}
 use Rattle.rl_states.specs.Changes.{after_touch}
 use Rattle.rl_view.proofs.TouchesLemmas.{closure_within}
-use Rattle.rl_drive.specs.Drives.{quiet}
 use Rattle.rl_drive.proofs.RefusingLemmas.{closures_same, due_touched}
 use Rattle.rl_drive.proofs.player.Player.request.Goals as goal
 
@@ -33,10 +32,10 @@ returns c =
     c.as_slice.ensures.value ∙ c.in_ok-rows.ensures.1 ∙ ap (λ (r : Registered). closure_numbers r c.args.names.now) c.registry.ensures in
     record {
       accepted = subst (λ (r : Registered). refusal_of r c.args.names.now ≡ None) c.registry.ensures c.in_ok-rows.ensures.0;
-      event = λ r past s.
-          c.refuse_all.ensures r c.args.names.now past
-          (due_touched r c.args.names.now past c.args.self.now _ s (c.touch.ensures ∙ ap (λ (rows : List ℕ). after_touch rows c.args.self.now.table) rows)
+      event = λ v past s.
+          c.refuse_all.ensures v c.args.names.now past
+          (due_touched v c.args.names.now past c.args.self.now _ s (c.touch.ensures ∙ ap (λ (rows : List ℕ). after_touch rows c.args.self.now.table) rows)
           refl)
           (c.as_slice-2.ensures.value ∙ sym c.as_slice.ensures.value ∙ rows
-          ∙ closures_same r c.args.names.now past (log_of (quiet r) past) c.args.self.now s);
+          ∙ closures_same v c.args.names.now past (log_of v past) c.args.self.now s);
     }

@@ -1,15 +1,19 @@
-use Rattle.std.proofs.Common.{◌<◌, sym, subst, length, refl}
+use Rattle.std.proofs.Common.{◌<◌, sym, subst, length, refl, ◌∙◌}
 use Rattle.rl_view_spec.specs.Progress.{Progress}
 use Rattle.rl_view.proofs.RunsLemmas.{next_within}
 use Rattle.rl_drive.proofs.player.Player.run_next.Goals as goal
 
-pub returns : goal.returns
-returns c =
-    let table = c.in_ok-row.ensures.after in
+pub tell-requires : goal.tell-requires
+tell-requires g c = next_within c.args.self.now.table c.in-Some.row (sym c.first_run.ensures ∙ c.in-Some.is)
+
+pub returns-clause-runs : goal.returns-clause-runs
+returns-clause-runs g c =
     record {
-      next = sym c.in_ok-row.ensures.row;
-      within = subst (λ (t : Progress). c.in_ok-row.row < length t.registered.rows) (sym table)
-          (next_within c.args.self.now.table c.in_ok-row.row (sym c.in_ok-row.ensures.row));
-      table = table;
-      lengths = refl;
+      next = sym c.first_run.ensures ∙ c.in-Some.is;
+      within = subst (λ (t : Progress). c.in-Some.row < length t.registered.rows) (sym c.run.ensures)
+          (next_within c.args.self.now.table c.in-Some.row (sym c.first_run.ensures ∙ c.in-Some.is));
+      table = c.run.ensures;
+      given = refl;
+      thrown = c.in_ok-threw.ensures.threw;
+      heard = c.in_ok-threw.ensures.told;
     }

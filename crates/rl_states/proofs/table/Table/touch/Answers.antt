@@ -1,6 +1,5 @@
 use Rattle.std.proofs.Common.{◌≡◌, ℕ, List, length, map, sym, subst, ◌∙◌, ap, arith}
 use Rattle.rl_view_spec.specs.Progress.{Cell, Progress}
-use Rattle.rl_states.specs.declared.standing.Standing.{Standing}
 use Rattle.rl_states.specs.Cells.{Seen}
 use Rattle.rl_states.specs.Changes.{after_touch}
 use Rattle.rl_states.specs.Credit.{credit}

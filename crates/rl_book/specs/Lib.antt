@@ -1,0 +1,5 @@
+pub mod Calls
+pub mod Errors
+pub mod Kept
+pub mod Opens
+pub mod Reads

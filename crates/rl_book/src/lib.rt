@@ -1,0 +1,15 @@
+//! One page view: requests, asks, deliveries and losses, and what executes for them.
+#![tactic(auto)]
+
+mod answer;
+mod error;
+mod giving;
+mod opening;
+#[cfg(test)]
+mod tests;
+pub mod visit;
+
+pub use answer::{Ask, Lost, Run};
+pub use error::{LoseRefusal, OpenError};
+pub use rl_book_spec::{Call, Mark, Origin, Plan, Took};
+pub use visit::Visit;

@@ -1,0 +1,162 @@
+//! Views, run with ample memory.
+ghost use Rattle.std.specs.Prelude.{IfOk};
+ghost use Rattle.rl_batch.specs.Given.{IsBase};
+
+use crate::{LoseRefusal, OpenError, Plan, Visit};
+use rl_names::{Blob, Only, Query, Seq, Text};
+use rl_states::Phase;
+use std::alloc::Global;
+use std::test::Fail;
+
+/// What `lang=en&skin=vector` reads as.
+fn base(alloc: Global) -> Result<Query, Fail>
+    ensures { IfOk result IsBase }
+{
+    Ok(Query {
+        modules: Text::of(alloc, "")?,
+        lang: Text::of(alloc, "en")?,
+        skin: Text::of(alloc, "vector")?,
+        debug: false,
+        only: Only::All,
+        user: Text::of(alloc, "")?,
+        version: Text::of(alloc, "")?,
+    })
+}
+
+/// The plan with this embedded text.
+fn plan(alloc: Global, embedded: &str) -> Result<Plan, Fail>
+    ensures { IfOk result (λ plan. IsBase plan.base) }
+{
+    Ok(Plan {
+        base: base(alloc)?,
+        features: Seq::of(Vec::new(alloc)),
+        embedded: Blob::of(alloc, embedded.as_bytes())?,
+        limit: 2_000,
+    })
+}
+
+/// A view over these rows, as the startup text has them, and this embedded text.
+fn open(alloc: Global, rows: &str, embedded: &str) -> Result<Result<Visit, OpenError>, Fail> {
+    let startup = format!(in alloc;
+        "mw.loader.addSource({{\"local\":\"/load.php\"}});\nmw.loader.register([{rows}]);\n"
+    )?;
+    Ok(Visit::open(alloc, startup.as_bytes(), plan(alloc, embedded)?))
+}
+
+/// What is told of a view that does not open.
+fn why(alloc: Global, rows: &str, embedded: &str) -> Result<String, Fail> {
+    match open(alloc, rows, embedded)? {
+        Ok(_) => format!(in alloc; "opens").map_err(Fail::from),
+        Err(error) => format!(in alloc; "{error}").map_err(Fail::from),
+    }
+}
+
+const TWO: &str = "[\"a\",\"aaaaa\",[1]],[\"b\",\"bbbbb\"]";
+
+#[test]
+fn views_that_do_not_open(rt: HostRuntime) -> Result<(), Fail> {
+    let alloc = rt.alloc();
+    for (rows, embedded, want) in [
+        (TWO, "", "opens"),
+        ("[\"a\"]", "mw.\n", "line 2 of the startup text is bad"),
+        (TWO, "mw.\n", "line 1 of the embedded text is bad"),
+        (
+            "[\"a\",\"aaaaa\"],[\"a\",\"bbbbb\"]",
+            "",
+            "two rows are named a",
+        ),
+        (
+            "[\"a\",\"aaaaa\",[7]]",
+            "",
+            "row 0 depends on row 7, and there is none",
+        ),
+    ] {
+        assert_eq!(rt; why(alloc, rows, embedded)?.as_str(), want);
+    }
+    Ok(())
+}
+
+fn opened(alloc: Global) -> Result<Visit, Fail> {
+    Ok(open(alloc, TWO, "")?.map_err(|_error| "a view")?)
+}
+
+fn state_of(visit: &Visit, name: &[u8]) -> Option<Phase> {
+    visit.state_of(name)
+}
+
+fn is_settled(visit: &Visit) -> bool {
+    visit.settled()
+}
+
+fn is_due(visit: &Visit) -> bool {
+    visit.due()
+}
+
+fn is_waiting(visit: &Visit) -> bool {
+    visit.waiting()
+}
+
+fn row_count(visit: &Visit) -> u32 {
+    visit.registry().count()
+}
+
+#[test]
+fn a_view_of_which_nothing_was_requested(rt: HostRuntime) -> Result<(), Fail> {
+    let visit = opened(rt.alloc())?;
+    assert_eq!(rt; state_of(&visit, b"a"), Some(Phase::Registered));
+    assert_eq!(rt; state_of(&visit, b"c"), None);
+    assert_eq!(rt; row_count(&visit), 2);
+    assert!(rt; is_settled(&visit));
+    assert!(rt; !is_due(&visit));
+    assert!(rt; !is_waiting(&visit));
+    Ok(())
+}
+
+fn limit_of(visit: &Visit) -> u32 {
+    visit.plan().limit
+}
+
+fn begins_as_written(visit: &Visit) -> bool {
+    visit.opening_startup().starts_with(b"mw.loader.addSource(")
+}
+
+/// How many calls, executions and asks there are.
+fn counts(visit: &Visit) -> (u32, u32, u32) {
+    (visit.call_count(), visit.run_count(), visit.ask_count())
+}
+
+#[test]
+fn what_a_view_was_opened_with(rt: HostRuntime) -> Result<(), Fail> {
+    let visit = opened(rt.alloc())?;
+    assert_eq!(rt; limit_of(&visit), 2_000);
+    assert!(rt; begins_as_written(&visit));
+    assert!(rt; counts(&visit) == (0, 0, 0));
+    Ok(())
+}
+
+/// Whether nothing is asked for.
+fn asks_for_nothing(visit: &mut Visit) -> Result<bool, Fail> {
+    Ok(visit.take()?.is_none())
+}
+
+/// An ask of none stands among the calls.
+#[test]
+fn nothing_waits(rt: HostRuntime) -> Result<(), Fail> {
+    let mut visit = opened(rt.alloc())?;
+    assert!(rt; asks_for_nothing(&mut visit)?);
+    assert!(rt; counts(&visit) == (1, 0, 0));
+    Ok(())
+}
+
+/// Whether the loss of an ask is refused in this way.
+fn is_refused(visit: &mut Visit, ask: u32, refusal: LoseRefusal) -> bool {
+    visit.lose(ask, None) == Err(refusal)
+}
+
+#[test]
+fn a_loss_of_no_ask(rt: HostRuntime) -> Result<(), Fail> {
+    let mut visit = opened(rt.alloc())?;
+    let refusal = LoseRefusal::NoSuchAsk { ask: 3, asks: 0 };
+    assert!(rt; is_refused(&mut visit, 3, refusal));
+    Ok(())
+}

@@ -1,0 +1,300 @@
+//! A page view from its opening on: its calls, and all that follows of them.
+ghost use Rattle.std.specs.Prelude.{◌≡◌, ◌<◌, ℕ, Bool, IfErr, IfOk, OnOk, OnErr, Some, length, option_map};
+ghost use Rattle.std.specs.Prelude.{reverse, slice_get};
+ghost use Rattle.rl_batch.specs.Given.{IsBase};
+ghost use Rattle.rl_batch.specs.Requests.{MayBeLost};
+ghost use Rattle.rl_book_spec.specs.Kept.{IsBook, Notes, is_due, plan_in, registered_in, traffic_in};
+ghost use Rattle.rl_book_spec.specs.Traffic.{all_settled};
+ghost use Rattle.rl_book_spec.specs.declared.Call.TheVariants.{Take, Lose};
+ghost use Rattle.rl_book.specs.Calls.{IsRun, Loses, Refuses, StateIs, Takes, batch_at, has_waiting, is_lost_at, is_settled_at, losses_at, next_ask};
+ghost use Rattle.rl_book.specs.Opens.{Opens};
+
+use crate::answer::{Ask, Lost, Run};
+use crate::error::{LoseRefusal, OpenError};
+use crate::giving::{first_run, give_up_at_third};
+use crate::opening::{parts_said, rows_said};
+use rl_batch::Requests;
+use rl_batch::requests::is_settled;
+use rl_book_spec::{Call, Mark, Plan};
+use rl_names::{Blob, NoMemory};
+use rl_registry::Registry;
+use rl_states::{Phase, Table};
+use rl_wire::Part;
+use std::alloc::Global;
+use std::marker::{Brand, Model};
+use std::sync::ledger::Blank;
+
+/// Calls have numbers of 32 bits, and two more must fit.
+const MAX_CALLS: usize = 0xFFFF_FFFD;
+
+/// One page view, from its opening on, but for those who are told of what executes.
+#[derive(Drop)]
+pub struct Visit {
+    alloc: Global,
+    startup: Blob,
+    plan: Plan,
+
+    /// What the embedded text brings.
+    embedded: Vec<Part>,
+
+    table: Table,
+
+    requests: Requests,
+    calls: Vec<Call>,
+
+    /// There is room for each row.
+    runs: Vec<Run>,
+}
+
+impl Model for Visit {
+    ghost use Rattle.rl_book_spec.specs.Kept.{Booked};
+    ghost use Rattle.rl_book.specs.Kept.{booked, IsKept};
+
+    ghost Value = { Booked };
+
+    ghost view = { booked };
+
+    ghost invariant = { IsKept };
+}
+
+impl Visit {
+    /// Opens a view over a startup text and a plan. The plan's query has no modules and no version.
+    pub fn open(alloc: Global, startup: &[u8], plan: Plan) -> Result<Visit, OpenError>
+        requires { IsBase plan.base }
+        ensures { Opens result startup.now plan }
+    {
+        let rows = rows_said(alloc, startup)?;
+        let embedded = parts_said(alloc, plan.embedded.as_bytes())?;
+        let registry = Registry::read(alloc, rows, plan.features.as_slice())?;
+        let runs = Vec::with_capacity(alloc, registry.count() as usize)?;
+        let table = Table::open(alloc, registry)?;
+        let startup = Blob::of(alloc, startup)?;
+        Ok(Visit {
+            alloc,
+            startup,
+            plan,
+            embedded,
+            table,
+            requests: Requests::new(alloc),
+            calls: Vec::new(alloc),
+            runs,
+        })
+    }
+
+    /// What is asked for next.
+    fn next_ask(&self) -> Result<Option<Ask>, NoMemory>
+        ensures { IfOk result (λ ask. ask ≡ next_ask (traffic_in self.now)) }
+    {
+        let Some(batch) = self.requests.first_waiting() else {
+            return Ok(None);
+        };
+        Ok(Some(Ask {
+            number: self.requests.ask_count(),
+            source: batch.source.copy()?,
+            query: batch.query.copy()?,
+        }))
+    }
+
+    /// Takes the batch that waits first, and makes room for the loss of its ask.
+    fn take_first(&mut self) -> Result<(), NoMemory>
+        ensures ok { OnOk result (Notes Take self.old self.new) }
+        ensures err { OnErr result (self.new ≡ self.old) }
+    {
+        let asks = self.requests.ask_count() as usize;
+        if self.calls.len() > MAX_CALLS || asks > MAX_CALLS - self.calls.len() {
+            return Err(NoMemory);
+        }
+        self.calls.reserve(asks + 2)?;
+        self.requests.take()?;
+        self.calls.push_reserved(Call::Take);
+        Ok(())
+    }
+
+    /// The next ask, for the batch that waits first. None exactly where no batch waits.
+    pub fn take(&mut self) -> Result<Option<Ask>, NoMemory>
+        ensures { Takes result self.old self.new }
+    {
+        let ask = self.next_ask()?;
+        self.take_first()?;
+        Ok(ask)
+    }
+
+    /// How many asks of the batch of this one were lost, where it may be lost.
+    fn losses(&self, ask: u32) -> Result<u32, LoseRefusal>
+        ensures ok { IfOk result (λ losses. MayBeLost (traffic_in self.now) ask × (losses ≡ losses_at (traffic_in self.now) ask)) }
+        ensures err { IfErr result (λ refusal. Refuses refusal (traffic_in self.now) ask) }
+    {
+        match self.requests.asked(ask) {
+            None => Err(LoseRefusal::NoSuchAsk {
+                ask,
+                asks: self.requests.ask_count(),
+            }),
+            Some((asked, sent)) => {
+                if is_settled(sent) {
+                    Err(LoseRefusal::Settled { ask })
+                } else if asked.lost {
+                    Err(LoseRefusal::LostBefore { ask })
+                } else {
+                    Ok(sent.losses)
+                }
+            }
+        }
+    }
+
+    /// Notes the loss of an ask. The third of a batch gives up the rows that it asks for.
+    fn note_loss(&mut self, ask: u32, mark: Option<Mark>)
+        requires { MayBeLost (traffic_in self.old) ask }
+        ensures { Notes (Lose ask mark) self.old self.new }
+    {
+        give_up_at_third::<Brand>(&mut self.table, &self.requests, ask, Blank::new(1));
+        self.requests.lose(ask);
+        self.calls.push_reserved(Call::Lose { ask, mark });
+    }
+
+    /// Notes that no answer to an ask will come. It takes no memory.
+    pub fn lose(&mut self, ask: u32, mark: Option<Mark>) -> Result<Lost, LoseRefusal>
+        ensures { Loses result ask mark self.old self.new }
+    {
+        let losses = self.losses(ask)?;
+        self.note_loss(ask, mark);
+        if losses > 1 {
+            Ok(Lost::GivenUp)
+        } else {
+            Ok(Lost::Again { tries: losses + 1 })
+        }
+    }
+
+    /// Whether rows may execute that did not for want of memory.
+    pub fn due(&self) -> bool
+        ensures due { result ≡ is_due self.now }
+        ensures book { IsBook self.now }
+    {
+        first_run::<Brand>(&self.table, Blank::new(1)).is_some()
+    }
+
+    /// Whether each batch was answered or given up.
+    pub fn settled(&self) -> bool
+        ensures { result ≡ all_settled (traffic_in self.now) }
+    {
+        self.requests.settled()
+    }
+
+    /// Whether a batch waits.
+    pub fn waiting(&self) -> bool
+        ensures { result ≡ has_waiting (traffic_in self.now) }
+    {
+        self.requests.has_waiting()
+    }
+
+    /// The state of a name, where it has a row. While executions are due nothing is said of it.
+    pub fn state_of(&self, name: &[u8]) -> Option<Phase>
+        ensures { StateIs self.now name.now result }
+    {
+        match self.table.registry().find(name) {
+            Some(row) => Some(self.table.state(row)),
+            None => None,
+        }
+    }
+
+    /// The rows, with the versions that they have by now.
+    pub fn registry(&self) -> &Registry
+        ensures { result.now ≡ registered_in self.now }
+    {
+        self.table.registry()
+    }
+
+    /// What it was opened with, beside the startup text.
+    pub fn plan(&self) -> &Plan
+        ensures { result.now ≡ plan_in self.now }
+    {
+        &self.plan
+    }
+
+    /// The startup text that it was opened with.
+    pub fn opening_startup(&self) -> &[u8]
+        ensures { result.now ≡ self.now.startup }
+    {
+        self.startup.as_bytes()
+    }
+
+    /// How many calls were taken in.
+    pub fn call_count(&self) -> u32
+        ensures { result ≡ length self.now.past }
+    {
+        self.calls.len() as u32
+    }
+
+    /// A call, of which the first has the number 0.
+    pub fn call_at(&self, at: u32) -> &Call
+        requires { at < length self.now.past }
+        ensures { slice_get (reverse self.now.past) at ≡ Some result.now }
+    {
+        &self.calls[at as usize]
+    }
+
+    /// How many rows executed.
+    pub fn run_count(&self) -> u32
+        ensures { result ≡ length self.now.ran }
+    {
+        self.runs.len() as u32
+    }
+
+    /// An execution, of which the first has the number 0.
+    pub fn run_at(&self, at: u32) -> &Run
+        requires { at < length self.now.ran }
+        ensures { (ran : ℕ × Bool) → slice_get self.now.ran at ≡ Some ran → IsRun self.now ran result.now }
+    {
+        &self.runs[at as usize]
+    }
+
+    /// How many asks were taken.
+    pub fn ask_count(&self) -> u32
+        ensures { result ≡ length (traffic_in self.now).asks }
+    {
+        self.requests.ask_count()
+    }
+
+    /// The source that an ask is sent to; the empty one is this wiki.
+    pub fn ask_source(&self, at: u32) -> &[u8]
+        requires { at < length (traffic_in self.now).asks }
+        ensures { option_map (λ batch. batch.source) (batch_at (traffic_in self.now) at) ≡ Some result.now }
+    {
+        match self.requests.asked(at) {
+            Some((_, sent)) => sent.batch.source.as_bytes(),
+            None => unreachable!(),
+        }
+    }
+
+    /// The query that an ask is sent with.
+    pub fn ask_query(&self, at: u32) -> &[u8]
+        requires { at < length (traffic_in self.now).asks }
+        ensures { option_map (λ batch. batch.query) (batch_at (traffic_in self.now) at) ≡ Some result.now }
+    {
+        match self.requests.asked(at) {
+            Some((_, sent)) => sent.batch.query.as_bytes(),
+            None => unreachable!(),
+        }
+    }
+
+    /// Whether an ask was lost.
+    pub fn ask_lost(&self, at: u32) -> bool
+        requires { at < length (traffic_in self.now).asks }
+        ensures { result ≡ is_lost_at (traffic_in self.now) at }
+    {
+        match self.requests.asked(at) {
+            Some((asked, _)) => asked.lost,
+            None => false,
+        }
+    }
+
+    /// Whether the batch of an ask was answered or given up.
+    pub fn ask_settled(&self, at: u32) -> bool
+        requires { at < length (traffic_in self.now).asks }
+        ensures { result ≡ is_settled_at (traffic_in self.now) at }
+    {
+        match self.requests.asked(at) {
+            Some((_, sent)) => is_settled(sent),
+            None => false,
+        }
+    }
+}

@@ -1,0 +1,7 @@
+use Rattle.std.proofs.Common.{ap, ◌∙◌}
+use Rattle.rl_names.specs.Hash.{hash_5}
+use Rattle.rl_loadphp.proofs.lines.make.Goals as goal
+
+-- The hash is compared by its text: computed on a text that is not there yet, it has no end.
+pub returns-clause-value : goal.returns-clause-value
+returns-clause-value c = c.hash5-version.ensures ∙ ap hash_5 (c.as_bytes.ensures ∙ c.in_ok-text.ensures)
