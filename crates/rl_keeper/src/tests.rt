@@ -5,6 +5,7 @@ use rl_names::{Blob, Text, Title};
 use rl_pages::Entry;
 use sqlite::{Alter, Connection};
 use std::alloc::Global;
+use std::env;
 use std::fs;
 use std::test::Fail;
 
@@ -186,19 +187,20 @@ fn a_record_of_another_kind(rt: HostRuntime) -> Result<(), Fail> {
     Ok(())
 }
 
-const FILE: &str = "/tmp/rl_keeper_two_edits.db";
-
 #[test]
 fn a_database_in_a_file(rt: HostRuntime) -> Result<(), Fail> {
     let alloc = rt.alloc();
-    let _ = fs::remove_file(&rt, FILE);
-    let mut keeper = SqlKeeper::over(alloc, Connection::open(&rt, FILE)?)?;
+    // The folder of this run alone: in a shared one a file of another user's could lie in the way.
+    let folder = env::temp_dir(&rt)?;
+    let file = format!(in alloc; "{}/rl_keeper_two_edits.db", folder.as_str())?;
+    let _ = fs::remove_file(&rt, file.as_str());
+    let mut keeper = SqlKeeper::over(alloc, Connection::open(&rt, file.as_str())?)?;
     assert_eq!(rt; two_edits(alloc, &mut keeper)?.as_str(), KEPT);
     keeper.db.close()?;
-    let mut again = SqlKeeper::over(alloc, Connection::open(&rt, FILE)?)?;
+    let mut again = SqlKeeper::over(alloc, Connection::open(&rt, file.as_str())?)?;
     assert_eq!(rt; again.fault_count(), 0);
     assert_eq!(rt; kept(alloc, &mut again)?.as_str(), KEPT);
     again.db.close()?;
-    let _ = fs::remove_file(&rt, FILE);
+    let _ = fs::remove_file(&rt, file.as_str());
     Ok(())
 }
