@@ -1,8 +1,7 @@
-//! Outcomes that a table is given, and calls of it whose steps nobody counts.
+//! Outcomes that a table is given.
 ghost use Rattle.std.specs.Prelude.{◌≡◌, ◌<◌, None, Some, All, length};
-ghost use Rattle.rl_view_spec.specs.Progress.{next_row};
 ghost use Rattle.rl_view_spec.specs.View.{GivenUp};
-ghost use Rattle.rl_view.specs.Seen.{counts_at, given_to};
+ghost use Rattle.rl_view.specs.Seen.{given_to};
 ghost use Rattle.rl_book_spec.specs.Traffic.{asked_of};
 ghost use Rattle.rl_book_spec.specs.declared.Asked.{Asked};
 ghost use Rattle.rl_book_spec.specs.declared.Sent.{Sent};
@@ -10,26 +9,8 @@ ghost use Rattle.rl_book.specs.Kept.{after_giving_up, after_third};
 
 use rl_batch::Requests;
 use rl_states::{Outcome, Steps, Table};
+use rl_view::counts;
 use std::sync::ledger::{Blank, Ledger};
-
-/// The row that would run next.
-pub(crate) fn first_run<L: Ledger>(table: &Table, blank: Blank) -> Option<u32>
-    requires name { blank.name ≡ L.name }
-    requires parts { blank.parts ≡ L.parts }
-    requires some { 0 < L.parts }
-    ensures { result ≡ next_row table.now }
-{
-    let mut steps = Steps::<L>::open(blank);
-    table.first_run(&mut steps)
-}
-
-/// Whether an answer counts for a row: it is touched, is not skipped and has no outcome.
-pub(crate) fn counts(table: &Table, row: u32) -> bool
-    requires { row < length table.now.registered.rows }
-    ensures { result ≡ counts_at table.now row }
-{
-    table.touched(row) && !table.registry().skipped(row) && !table.has_outcome(row)
-}
 
 /// Gives up a row, where that counts.
 fn give_up_row<L: Ledger>(table: &mut Table, row: u32, steps: &mut Steps<L>)

@@ -11,7 +11,7 @@ ghost use Rattle.rl_book.specs.Opens.{Opens};
 
 use crate::answer::{Ask, Lost, Run};
 use crate::error::{LoseRefusal, OpenError};
-use crate::giving::{first_run, give_up_at_third};
+use crate::giving::give_up_at_third;
 use crate::opening::{parts_said, rows_said};
 use rl_batch::Requests;
 use rl_batch::requests::is_settled;
@@ -19,6 +19,7 @@ use rl_book_spec::{Call, Mark, Plan};
 use rl_names::{Blob, NoMemory};
 use rl_registry::Registry;
 use rl_states::{Phase, Table};
+use rl_view::uncounted;
 use rl_wire::Part;
 use std::alloc::Global;
 use std::marker::{Brand, Model};
@@ -169,7 +170,7 @@ impl Visit {
         ensures due { result ≡ is_due self.now }
         ensures book { IsBook self.now }
     {
-        first_run::<Brand>(&self.table, Blank::new(1)).is_some()
+        uncounted::first_run::<Brand>(&self.table, Blank::new(1)).is_some()
     }
 
     /// Whether each batch was answered or given up.

@@ -8,7 +8,6 @@ mod steps;
 #[cfg(test)]
 mod tests;
 mod text;
-mod uncounted;
 
 pub use script::{DriveError, drive};
 pub use steps::{Driven, play};

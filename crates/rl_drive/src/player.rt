@@ -9,17 +9,17 @@ ghost use Rattle.rl_view_spec.specs.View.{View, kind_of};
 ghost use Rattle.rl_script_spec.specs.Output.{answer_of, events_of, line, summary_of};
 ghost use Rattle.rl_script_spec.specs.declared.Step.{Step};
 ghost use Rattle.rl_view.specs.Heard.{after_hearing};
-ghost use Rattle.rl_view.specs.Seen.{counting_row, counts_at};
+ghost use Rattle.rl_view.specs.Seen.{counting_row};
 ghost use Rattle.rl_drive.specs.Played.{executed_lines, execution_at, is_private_at, is_ready_at, is_served_at, key_at, run_at, run_word, script_length, state_at, state_lines, throws_for_run};
 
 use crate::given::{Given, nothing_given};
 use crate::text::{state_word, write, write_key, write_line, write_number};
-use crate::uncounted;
 use rl_base::Hears;
 use rl_names::{Group, Key, NoMemory, StateKind, Text};
 use rl_registry::{Registry, ResolveError};
 use rl_script_spec::Step;
 use rl_states::{Outcome, Phase, Table};
+use rl_view::{counts, uncounted};
 use std::alloc::Global;
 use std::marker::Brand;
 use std::slice;
@@ -82,16 +82,6 @@ impl<'a> Player<'a> {
         }
     }
 
-    /// Whether an answer counts for a row: it is touched, is not skipped and has no outcome.
-    fn counts(&self, row: u32) -> bool
-        requires { row < length self.now.table.registered.rows }
-        ensures { result ≡ counts_at self.now.table row }
-    {
-        self.table.touched(row)
-            && !self.table.registry().skipped(row)
-            && !self.table.has_outcome(row)
-    }
-
     fn is_private(&self, row: u32) -> bool
         requires { row < length self.now.table.registered.rows }
         ensures { result ≡ is_private_at self.now.table row }
@@ -104,7 +94,7 @@ impl<'a> Player<'a> {
         requires { row < length self.old.table.registered.rows }
         ensures { RefusesPrivate row self.old self.new }
     {
-        if self.is_private(row) && self.counts(row) {
+        if self.is_private(row) && counts(&self.table, row) {
             uncounted::outcome::<Brand>(&mut self.table, row, Outcome::Error, Blank::new(1));
         }
     }
@@ -193,7 +183,11 @@ impl<'a> Player<'a> {
         ensures { result ≡ counting_row self.now.table name.now }
     {
         let row = self.table.registry().find(name)?;
-        if self.counts(row) { Some(row) } else { None }
+        if counts(&self.table, row) {
+            Some(row)
+        } else {
+            None
+        }
     }
 
     /// Gives the row of a key its implementation.

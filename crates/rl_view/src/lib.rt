@@ -1,7 +1,12 @@
 //! How a table of states stands for the history of a view: a page's or a script's, under any observers.
 #![tactic(auto)]
 
+mod counting;
+pub mod uncounted;
+
 ghost use Rattle.rl_view.specs.Laws.{Begins, Touches, Answers, PassesOver, RunsOn, RunsSame, TellsStates};
+
+pub use counting::counts;
 
 /// A fresh table stands for a view to which nothing happened; requests and answers lead it on.
 pub fn event_laws()
