@@ -4,3 +4,5 @@ pub mod RegistrableLemmas
 mod LinesLemmas
 mod Worked
 pub mod TellingLemmas
+pub mod BlamedLemmas
+pub mod UnreadyLemmas

@@ -14,8 +14,13 @@ use Rattle.rl_names.specs.declared.rule.Rule.TheVariants as rules
 use Rattle.rl_view_spec.specs.Breach.{breach_of, TooMany, Duplicate}
 use Rattle.rl_view_spec.specs.Closure.{Text}
 use Rattle.rl_view_spec.specs.View.{Throws, log_of}
+use Rattle.rl_view_spec.specs.declared.Phase.TheVariants as phase
 use Rattle.rl_script_spec.specs.Output.{line}
 use Rattle.rl_script_spec.specs.Script.{verdict_of, view_of, history_of, Prints, BadLine}
+use Rattle.rl_script_spec.specs.Unready.{unready_in}
+use Rattle.rl_script_spec.specs.declared.Blame.TheVariants as blames
+use Rattle.rl_script_spec.specs.declared.Unready.TheVariants.{Refused, NotReady}
+use Rattle.rl_script_spec.specs.declared.Unresolved.TheVariants as unresolved
 
 abbrev never : Throws
 never name version script = false
@@ -116,6 +121,45 @@ private_row :
     false
 unfolding digits serde_json_on_literals is_utf8 chars encode
 private_row = refl
+
+-- ---- why not everything was served
+
+-- the last dependency is not answered
+why_waiting :
+    unready_in never (three_rows ++ line (codes "[\"using\",[\"A\"]]") ++ line (codes "[\"impl\",\"A@aaaaa\",\"a()\"]")
+    ++ line (codes "[\"impl\",\"B@bbbbb\",\"b()\"]"))
+    ≡ Some (NotReady (codes "A") phase.Loaded (codes "C") blames.Unanswered)
+unfolding serde_json_on_literals
+why_waiting = refl
+
+why_thrown : unready_in (λ name version script. bytes_eq name (codes "B")) three ≡ Some (NotReady (codes "A") phase.Error (codes "B") blames.Threw)
+unfolding serde_json_on_literals
+why_thrown = refl
+
+-- of two the least name is blamed, and not the row that waits for both
+why_least :
+    unready_in never
+    (line (codes "[\"row\",\"A\",\"aaaaa\",[\"d\",\"c\"]]") ++ line (codes "[\"row\",\"d\",\"ddddd\"]") ++ line (codes "[\"row\",\"c\",\"ccccc\"]")
+    ++ line (codes "[\"load\",[\"A\"]]") ++ line (codes "[\"impl\",\"A@aaaaa\",\"a()\"]") ++ line (codes "[\"state\",\"d\",\"error\"]")
+    ++ line (codes "[\"state\",\"c\",\"missing\"]"))
+    ≡ Some (NotReady (codes "A") phase.Error (codes "c") blames.Missing)
+unfolding serde_json_on_literals
+why_least = refl
+
+-- a refusal is told before a name that is not ready, by the number of its step
+why_refused :
+    unready_in never (two (codes "[\"A\",\"zz\",\"nn\"]") ++ line (codes "[\"impl\",\"A@aaaaa\",\"a()\"]") ++ line (codes "[\"load\",[\"A\"]]"))
+    ≡ Some (Refused 2 (codes "nn") unresolved.Unknown)
+unfolding serde_json_on_literals
+why_refused = refl
+
+why_cyclic : unready_in never (two (codes "[\"A\"]") ++ line (codes "[\"using\",[\"B\"]]")) ≡ Some (Refused 1 (codes "A") unresolved.Cycle)
+unfolding serde_json_on_literals
+why_cyclic = refl
+
+nothing_told : unready_in never (with_skip ++ line (codes "[\"using\",[\"A\"]]") ++ line (codes "[\"impl\",\"A@aaaaa\",\"a()\"]")) ≡ None
+unfolding serde_json_on_literals
+nothing_told = refl
 
 -- ---- limits of a registry
 

@@ -1,14 +1,16 @@
 -- What the steps of a script keep, whatever their order.
-use Rattle.std.specs.Prelude.{◌≡◌, ◌++◌, ℕ, List, Bool, IsTrue, flat_map}
-use Rattle.rl_view_spec.specs.Closure.{Text}
+use Rattle.std.specs.Prelude.{◌≡◌, ◌++◌, ◌↔◌, ℕ, List, Bool, IsTrue, flat_map, is_none, Some, None}
+use Rattle.rl_view_spec.specs.Closure.{Text, InClosure, least}
 use Rattle.rl_view_spec.specs.Progress.{HasDistinctNames, name_at}
 use Rattle.rl_view_spec.specs.Rows.{AreRegistrable}
-use Rattle.rl_view_spec.specs.View.{View, Event, Throws, is_touched, log_of}
+use Rattle.rl_view_spec.specs.View.{View, Event, Throws, is_touched, log_of, state_of}
+use Rattle.rl_view_spec.specs.declared.Phase.TheVariants as phase
 use Rattle.rl_view_spec.specs.Headline.{RunsOnceAndAfter, ReadyWhereGood}
-use Rattle.rl_view_spec.specs.Laws.{AreLawful}
+use Rattle.rl_view_spec.specs.Laws.{AreLawful, IsLeast}
 use Rattle.rl_view_spec.specs.Order.{HaveSameOutcomes}
-use Rattle.rl_script_spec.specs.Output.{events_of, line, run_line, replies_of, summary_of}
+use Rattle.rl_script_spec.specs.Output.{all_ready, events_of, line, run_line, replies_of, summary_of}
 use Rattle.rl_script_spec.specs.Script.{lines_of, rows_in, verdict_of, view_of, history_of, Prints}
+use Rattle.rl_script_spec.specs.Unready.{blamed, is_to_blame, unready_of}
 use Rattle.rl_script_spec.specs.declared.Step.{Step}
 
 -- the same outcomes give the same summary
@@ -58,3 +60,18 @@ RepliesTellLog =
     (v : View) (past : List Step)
     → (printings : List Printing) × (replies_of v past ≡ flat_map (printing_text v (events_of v.registered past)) printings)
     × (flat_map (λ printing. printing.ran) printings ≡ log_of v (events_of v.registered past))
+
+-- Why not everything was served is told exactly where something was not.
+abbrev pub ToldWhereNotServed : Type 0
+ToldWhereNotServed = (v : View) (past : List Step) → is_none (unready_of v past) ≡ all_ready v past
+
+-- a member of the closure that is to blame by itself
+abbrev pub IsBlamed : View → List Event → Text → Text → Type 0
+IsBlamed v past name member = InClosure v.registered name member × IsTrue (is_to_blame v past member)
+
+-- What is told of a touched name is of the least member that is to blame, and nothing is told exactly where the name is ready.
+abbrev pub BlamedIsLeast : Type 0
+BlamedIsLeast =
+    (v : View) (past : List Event) → AreLawful v past → (name : Text) → IsTrue (is_touched v past name)
+    → ((member : Text) → (least (blamed v past name) ≡ Some member) ↔ IsLeast (IsBlamed v past name) member)
+    × ((least (blamed v past name) ≡ None) ↔ (state_of v past name ≡ phase.Ready))

@@ -2,3 +2,4 @@ pub mod Grammar
 pub mod Laws
 pub mod Output
 pub mod Script
+pub mod Unready
