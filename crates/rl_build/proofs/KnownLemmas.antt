@@ -1,6 +1,6 @@
 -- What is chosen where a name is among those that are known.
 use Rattle.std.proofs.Common.{◌≡◌, ℕ, ◌<◌, Bool, true, false, cond, not, ◌||◌, List, [], ◌∷◌, length, get_or, find}
-use Rattle.std.proofs.Common.{Option, Some, IsTrue, IsUtf8, bytes_eq, codes, refl, sym, ap, subst, ◌∙◌}
+use Rattle.std.proofs.Common.{Option, Some, IsTrue, IsUtf8, bytes_eq, codes, refl, sym, ap, subst, ◌∙◌, arith}
 use Rattle.std.specs.Prelude.{option_and_then, slice_get}
 use Rattle.std.specs.List.{list_any}
 use Rattle.std.proofs.lemmas.List.Folds.{list_any_at}
@@ -14,7 +14,10 @@ use Rattle.rl_defs.specs.Words.{is_built_in, is_definable, is_gadget}
 use Rattle.rl_defs.specs.declared.file.File.{File}
 use Rattle.rl_defs.specs.declared.module_def.ModuleDef.{ModuleDef}
 use Rattle.rl_build.specs.declared.payloads.Payload.{Payload}
+use Rattle.rl_build.specs.declared.sheets.Sheet.{Sheet}
 use Rattle.rl_build.specs.Payload.{IsBrought}
+use Rattle.rl_build.specs.Sheet.{sheet_of_module, IsLawful}
+use Rattle.rl_build.proofs.DistinctLemmas.{distinct_few}
 
 pub found : {X : Type 0} (key : X → List ℕ) (xs ys : List X) (i : ℕ) (x : X) (name absent : List ℕ)
     → xs ≡ ys → i < length xs → x ≡ get_or xs i x → key x ≡ name → cond (list_any (λ y. bytes_eq (key y) name) ys) name absent ≡ name
@@ -46,3 +49,10 @@ named_lawfully files ms at m n named is lawful =
 
 pub brought : (name : List ℕ) (p : Payload) → IsTrue (is_name name) → IsUtf8 p.script × IsUtf8 p.styles × (p.messages ≡ []) → IsBrought name p
 brought name p is (script, styles, none) = (is, script, styles, subst AreTexts (sym none) tt, subst AreAscending (sym none) tt)
+
+-- the sheet of a lawful module is lawful
+pub sheet_lawful : (files : List File) (m : ModuleDef) (sheet : Sheet) → sheet ≡ sheet_of_module m → IsModule files m → IsLawful sheet
+sheet_lawful files m sheet is lawful = subst IsLawful (sym is) (record {
+  few = omega (arith, distinct_few m.dependencies, lawful.few_dependencies);
+  feature = lawful.feature;
+})

@@ -1,2 +1,3 @@
 pub mod AllNamesLemmas
 pub mod KnownLemmas
+pub mod DistinctLemmas

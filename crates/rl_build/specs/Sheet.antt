@@ -1,8 +1,12 @@
 -- What a wiki says of a module, where it has one of that name.
-use Rattle.std.specs.Prelude.{◌↔◌, ℕ, List, Option, option_map, IsSome, Contains}
+use Rattle.std.specs.Prelude.{◌↔◌, ℕ, ◌≤◌, true, List, length, Option, option_map, IsSome, IsTrue, Contains}
+use Rattle.std.specs.Option.{option_map_or}
+use Rattle.rl_names.specs.Limits.{limit_of}
+use Rattle.rl_names.specs.declared.counted.Counted.TheVariants.{Dependencies}
 use Rattle.rl_names.specs.Packing.{distinct}
 use Rattle.rl_defs.specs.Ascending.{IsAscending}
 use Rattle.rl_defs.specs.Catalogue.{module_named}
+use Rattle.rl_defs.specs.Reading.{is_feature}
 use Rattle.rl_defs.specs.declared.module_def.ModuleDef.{ModuleDef}
 use Rattle.rl_build.specs.declared.context.Context.{Context}
 use Rattle.rl_build.specs.declared.sheets.Sheet.{Sheet}
@@ -20,3 +24,8 @@ sheet_of s ctx name = option_map sheet_of_module (module_named s.catalogue name)
 pub record AreAllNames (s : Sight) (ctx : Context) (names : List (List ℕ)) : Type 0 where
   pub ascending : IsAscending names
   pub all : (name : List ℕ) → Contains names name ↔ IsSome (sheet_of s ctx name)
+
+-- what holds of every sheet: it names at most 256 modules, and is skipped for a feature or for nothing
+pub record IsLawful (sheet : Sheet) : Type 0 where
+  pub few : length sheet.deps ≤ limit_of Dependencies
+  pub feature : IsTrue (option_map_or is_feature sheet.skip true)

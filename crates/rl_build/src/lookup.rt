@@ -1,10 +1,10 @@
 //! Look-ups by name in a context.
-ghost use Rattle.std.specs.Prelude.{◌≡◌, [], IfOk, IfSome, IsTrue, IsUtf8, is_some, option_map};
+ghost use Rattle.std.specs.Prelude.{◌≡◌, ◌≤◌, [], IfOk, IfSome, IsTrue, IsUtf8, is_some, length, option_map};
 ghost use Rattle.rl_names.specs.Name.{is_name};
-ghost use Rattle.rl_defs.specs.Catalogue.{module_named};
+ghost use Rattle.rl_defs.specs.Catalogue.{module_named, IsModule};
 ghost use Rattle.rl_wire.specs.Message.{AreAscending};
 ghost use Rattle.rl_build.specs.Sight.{sight};
-ghost use Rattle.rl_build.specs.Sheet.{sheet_of, sheet_of_module, AreAllNames};
+ghost use Rattle.rl_build.specs.Sheet.{sheet_of, sheet_of_module, AreAllNames, IsLawful};
 ghost use Rattle.rl_build.specs.Payload.{payload_of, payload_of_module, IsBrought};
 
 use crate::context::Context;
@@ -12,7 +12,7 @@ use crate::payloads::Payload;
 use crate::sheets::Sheet;
 use crate::texts::{distinct_names, joined};
 use rl_defs::{Catalog, ModuleDef};
-use rl_names::{Name, NoMemory, Seq, Text};
+use rl_names::{MAX_ROWS, Name, NoMemory, Seq, Text};
 use rl_pages::{Pages, Viewer};
 use std::alloc::Global;
 
@@ -20,6 +20,7 @@ use std::alloc::Global;
 fn module_of<'a>(catalog: &'a Catalog, name: &[u8]) -> Option<&'a ModuleDef>
     ensures value { option_map (λ m. m.now) result ≡ module_named catalog.now name.now }
     ensures name { IfSome result (λ _. IsTrue (is_name name.now)) }
+    ensures lawful { IfSome result (λ m. IsModule catalog.now.files m.now) }
 {
     let at = catalog.find(name)?;
     Some(catalog.module_at(at))
@@ -46,6 +47,7 @@ fn sheet_of_module(alloc: Global, module: &ModuleDef) -> Result<Sheet, NoMemory>
 }
 
 /// The sheet of a name, or none where the wiki has no such module.
+#[tactic(auto, using(crate::proofs::KnownLemmas::sheet_lawful))]
 pub fn sheet(
     alloc: Global,
     catalog: &Catalog,
@@ -54,7 +56,8 @@ pub fn sheet(
     ctx: &Context,
     name: &[u8],
 ) -> Result<Option<Sheet>, NoMemory>
-    ensures { IfOk result (λ s. s ≡ sheet_of (sight catalog.now pages.now.entries viewer.now) ctx.now name.now) }
+    ensures value { IfOk result (λ s. s ≡ sheet_of (sight catalog.now pages.now.entries viewer.now) ctx.now name.now) }
+    ensures lawful { IfOk result (λ s. IfSome s IsLawful) }
 {
     match module_of(catalog, name) {
         Some(module) => Ok(Some(sheet_of_module(alloc, module)?)),
@@ -87,10 +90,11 @@ pub fn names(
     viewer: &Viewer,
     ctx: &Context,
 ) -> Result<Vec<Name>, NoMemory>
-    ensures { IfOk result (λ v. AreAllNames (sight catalog.now pages.now.entries viewer.now) ctx.now v.items) }
+    ensures names { IfOk result (λ v. AreAllNames (sight catalog.now pages.now.entries viewer.now) ctx.now v.items) }
+    ensures few { IfOk result (λ v. length v.items ≤ MAX_ROWS) }
 {
     let modules = catalog.modules();
-    let mut names = Vec::with_capacity(alloc, modules.len())?;
+    let mut names = Vec::with_capacity(alloc, catalog.module_count() as usize)?;
     'modules: for module in modules {
         names.push(module.name.copy()?)?;
     }
