@@ -11,7 +11,7 @@ first_or_later : (x : List ℕ) (xs : List (List ℕ)) (n : List ℕ) → Contai
 first_or_later x xs n (zero, within, is) = inl is
 first_or_later x xs n (suc k, within, is) = inr (k, omega arith, is)
 
-later : (x : List ℕ) (xs : List (List ℕ)) (n : List ℕ) → Contains xs n → Contains (x ∷ xs) n
+pub later : (x : List ℕ) (xs : List (List ℕ)) (n : List ℕ) → Contains xs n → Contains (x ∷ xs) n
 later x xs n (k, within, is) = (suc k, omega arith, is)
 
 -- the sheet that the first module of this name has

@@ -1,2 +1,4 @@
 pub mod PlacesLemmas
 pub mod RowsLemmas
+pub mod FineLemmas
+pub mod RegistryLemmas

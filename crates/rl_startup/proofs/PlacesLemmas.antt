@@ -1,11 +1,10 @@
 -- The places of texts, as more of them are noted.
-use Rattle.std.proofs.Common.{◌≡◌, ℕ, ◌+◌, ◌≤◌, Bool, true, false, not, cond, filter, List, [], ◌∷◌, ◌++◌, length, Option, Some}
+use Rattle.std.proofs.Common.{◌≡◌, ℕ, ◌+◌, Bool, true, false, cond, List, [], ◌∷◌, ◌++◌, length, Option, Some}
 use Rattle.std.proofs.Common.{None, bytes_eq, refl, sym, ap, ◌∙◌, arith}
 use Rattle.std.specs.Prelude.{is_some}
 use Rattle.std.specs.Option.{option_or}
 use Rattle.std.specs.List.{position_from}
 use Rattle.std.proofs.lemmas.Slice.Eq.{bytes_eq-Decides}
-use Rattle.rl_names.specs.Packing.{distinct}
 use Rattle.rl_startup.specs.Rows.{place_in}
 
 or_none : (o : Option ℕ) → option_or o None ≡ o
@@ -59,17 +58,3 @@ pub place_more : (before after : List (List ℕ)) (text q : List ℕ) (i : ℕ) 
 place_more before after text q i o grown count is =
     ap (λ p. option_or p (cond (bytes_eq text q) (Some i) None)) is ∙ sym (place_push (λ other. bytes_eq other q) 0 i before text (omega (arith, count)))
     ∙ ap (λ (texts : List (List ℕ)). place_in texts q) (sym grown)
-
--- ---- how many distinct texts there are
-
-fewer_step : (b : Bool) (x : List ℕ) (ys xs : List (List ℕ)) → length ys ≤ length xs → length (cond b (x ∷ ys) ys) ≤ length (x ∷ xs)
-fewer_step true x ys xs h = omega arith
-fewer_step false x ys xs h = omega arith
-
-fewer : (p : List ℕ → Bool) (xs : List (List ℕ)) → length (filter p xs) ≤ length xs
-fewer p [] = omega arith
-fewer p (x ∷ xs) = fewer_step (p x) x (filter p xs) xs (fewer p xs)
-
-pub distinct_few : (xs : List (List ℕ)) → length (distinct xs) ≤ length xs
-distinct_few [] = omega arith
-distinct_few (x ∷ xs) = omega (arith, fewer (λ y. not (bytes_eq x y)) (distinct xs), distinct_few xs)

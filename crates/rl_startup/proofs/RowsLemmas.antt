@@ -83,3 +83,9 @@ pub carried : (r : Result (Vec Row Global) NoMemory) (rows : List Row) (P : List
     IfOk r (λ v. P v.items)
 carried (Ok v) rows P is p = subst P (sym is) p
 carried (Err e) rows P is p = tt
+
+-- what follows of the items of a result follows of the result
+pub followed : (r : Result (Vec Row Global) NoMemory) (P Q : List Row → Type 0) → ((rows : List Row) → P rows → Q rows) → IfOk r (λ v. P v.items) →
+    IfOk r (λ v. Q v.items)
+followed (Ok v) P Q f p = f v.items p
+followed (Err e) P Q f p = tt

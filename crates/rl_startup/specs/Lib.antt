@@ -1,3 +1,5 @@
 pub mod Places
 pub mod Rows
 pub mod Laws
+pub mod Registry
+pub mod Fine

@@ -137,7 +137,7 @@ fn rows_by(
 /// The rows of the modules, in their order. Groups that are neither `user` nor `private` get numbers
 /// from 2, in the order in which they first appear; a dependency is told by the number of its row, and
 /// by name where it has none.
-pub fn rows(alloc: Global, modules: &[Module]) -> Result<Vec<Row>, NoMemory>
+pub fn rows_of(alloc: Global, modules: &[Module]) -> Result<Vec<Row>, NoMemory>
     requires few { length modules.now ≤ MAX_ROWS }
 
     // A version is there exactly where the group is not private, and no skip is empty.

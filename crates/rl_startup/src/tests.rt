@@ -3,7 +3,7 @@ ghost use Rattle.std.specs.Prelude.{◌≡◌, IfOk, false};
 ghost use Rattle.rl_wire.specs.Startup.{AreOrdered};
 ghost use Rattle.rl_startup.specs.Rows.{is_private, IsFit};
 
-use crate::{Module, rows};
+use crate::modules::{Module, rows_of};
 use rl_build::Sheet;
 use rl_names::{Name, NoMemory, Seq, Source, Text, Version};
 use rl_wire::{Startup, write_startup};
@@ -75,7 +75,7 @@ const TINY: &str =
 #[test]
 fn startup_of_tiny(rt: HostRuntime) -> Result<(), Fail> {
     let alloc = rt.alloc();
-    let made = rows(
+    let made = rows_of(
         alloc,
         &[
             shared(alloc, "a", b"96okj", "", &[], "local")?,
@@ -98,7 +98,7 @@ fn startup_of_tiny(rt: HostRuntime) -> Result<(), Fail> {
 #[test]
 fn groups_are_numbered_by_their_first_row(rt: HostRuntime) -> Result<(), Fail> {
     let alloc = rt.alloc();
-    let made = rows(
+    let made = rows_of(
         alloc,
         &[
             shared(alloc, "a", b"aaaaa", "z", &["b", "zz"], "local")?,

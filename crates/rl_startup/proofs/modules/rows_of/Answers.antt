@@ -6,9 +6,9 @@ use Rattle.rl_wire.specs.Startup.{AreWritable}
 use Rattle.rl_startup.specs.Laws.{HaveAtMost, NeedAtMost}
 use Rattle.rl_startup.specs.Places.{place_by}
 use Rattle.rl_startup.specs.Rows.{place_in, groups_of, names_of, rows_of, row_of}
-use Rattle.rl_startup.proofs.PlacesLemmas.{distinct_few}
+use Rattle.rl_build.proofs.DistinctLemmas.{distinct_few}
 use Rattle.rl_startup.proofs.RowsLemmas.{rows_are_lawful, rows_same, carried}
-use Rattle.rl_startup.proofs.modules.rows.Goals as goal
+use Rattle.rl_startup.proofs.modules.rows_of.Goals as goal
 
 pub places_of_texts-requires : goal.places_of_texts-requires
 places_of_texts-requires c =
