@@ -1,6 +1,9 @@
+pub mod AskedLemmas
+pub mod AskingLemmas
 pub mod CallsLemmas
 pub mod LookingLemmas
 pub mod NotedLemmas
 pub mod OpenedLemmas
 pub mod OpeningLemmas
+pub mod RequestingLemmas
 pub mod SeenLemmas

@@ -1,5 +1,7 @@
+pub mod Asking
 pub mod Calls
 pub mod Errors
 pub mod Kept
 pub mod Opens
 pub mod Reads
+pub mod Requesting

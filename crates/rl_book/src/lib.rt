@@ -5,8 +5,10 @@ mod answer;
 mod error;
 mod giving;
 mod opening;
+mod requesting;
 #[cfg(test)]
 mod tests;
+mod touching;
 pub mod visit;
 
 pub use answer::{Ask, Lost, Run};
