@@ -1,5 +1,5 @@
 -- How many distinct texts there are.
-use Rattle.std.proofs.Common.{◌≡◌, ℕ, ◌≤◌, Bool, not, filter, List, [], ◌∷◌, length, bytes_eq, arith}
+use Rattle.std.proofs.Common.{ℕ, ◌≤◌, Bool, not, filter, List, [], ◌∷◌, length, bytes_eq, arith}
 use Rattle.std.proofs.lemmas.List.Sums.{count_by-le-length, length-filter}
 use Rattle.rl_names.specs.Packing.{distinct}
 

@@ -1,6 +1,6 @@
 -- What is chosen where a name is among those that are known.
 use Rattle.std.proofs.Common.{◌≡◌, ℕ, ◌<◌, Bool, true, false, cond, not, ◌||◌, List, [], ◌∷◌, length, get_or, find}
-use Rattle.std.proofs.Common.{Option, Some, IsTrue, IsUtf8, bytes_eq, codes, refl, sym, ap, subst, ◌∙◌, arith}
+use Rattle.std.proofs.Common.{Option, Some, IsTrue, IsUtf8, bytes_eq, codes, refl, sym, ap, subst, ◌∙◌, arith, lit≤}
 use Rattle.std.specs.Prelude.{option_and_then, slice_get}
 use Rattle.std.specs.List.{list_any}
 use Rattle.std.proofs.lemmas.List.Folds.{list_any_at}
@@ -13,10 +13,12 @@ use Rattle.rl_defs.specs.Catalogue.{IsModule}
 use Rattle.rl_defs.specs.Words.{is_built_in, is_definable, is_gadget}
 use Rattle.rl_defs.specs.declared.file.File.{File}
 use Rattle.rl_defs.specs.declared.module_def.ModuleDef.{ModuleDef}
+use Rattle.rl_build.specs.declared.built_in.BuiltIn.{BuiltIn}
+use Rattle.rl_build.specs.declared.built_in.BuiltIn.TheVariants.{Site, SiteStyles, User, UserOptions, UserStyles}
 use Rattle.rl_build.specs.declared.payloads.Payload.{Payload}
 use Rattle.rl_build.specs.declared.sheets.Sheet.{Sheet}
 use Rattle.rl_build.specs.Payload.{IsBrought}
-use Rattle.rl_build.specs.Sheet.{sheet_of_module, IsLawful}
+use Rattle.rl_build.specs.Sheet.{sheet_of_built_in, sheet_of_module, IsLawful}
 use Rattle.rl_build.proofs.DistinctLemmas.{distinct_few}
 
 pub found : {X : Type 0} (key : X → List ℕ) (xs ys : List X) (i : ℕ) (x : X) (name absent : List ℕ)
@@ -56,3 +58,11 @@ sheet_lawful files m sheet is lawful = subst IsLawful (sym is) (record {
   few = omega (arith, distinct_few m.dependencies, lawful.few_dependencies);
   feature = lawful.feature;
 })
+
+-- and so is that of a built-in one
+pub built_in_lawful : (b : BuiltIn) (sheet : Sheet) → sheet ≡ sheet_of_built_in b → IsLawful sheet
+built_in_lawful Site sheet is = subst IsLawful (sym is) (record { few = lit≤ tt; feature = refl })
+built_in_lawful SiteStyles sheet is = subst IsLawful (sym is) (record { few = lit≤ tt; feature = refl })
+built_in_lawful User sheet is = subst IsLawful (sym is) (record { few = lit≤ tt; feature = refl })
+built_in_lawful UserOptions sheet is = subst IsLawful (sym is) (record { few = lit≤ tt; feature = refl })
+built_in_lawful UserStyles sheet is = subst IsLawful (sym is) (record { few = lit≤ tt; feature = refl })

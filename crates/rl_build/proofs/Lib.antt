@@ -1,3 +1,4 @@
 pub mod AllNamesLemmas
 pub mod KnownLemmas
 pub mod DistinctLemmas
+pub mod PagesLemmas

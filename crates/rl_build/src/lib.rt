@@ -2,15 +2,21 @@
 //! version.
 #![tactic(auto)]
 
+mod all_names;
+pub mod built_in;
 pub mod context;
 pub mod lookup;
+mod options;
+mod pages;
 pub mod payloads;
 pub mod sheets;
 #[cfg(test)]
 mod tests;
 mod texts;
 
+pub use all_names::names;
+pub use built_in::BuiltIn;
 pub use context::Context;
-pub use lookup::{group_and_source, names, payload, sheet};
+pub use lookup::{group_and_source, payload, sheet};
 pub use payloads::{Payload, version};
 pub use sheets::Sheet;

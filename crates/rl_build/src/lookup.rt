@@ -1,18 +1,21 @@
 //! Look-ups by name in a context.
-ghost use Rattle.std.specs.Prelude.{◌≡◌, ◌≤◌, [], IfOk, IfSome, IsTrue, IsUtf8, is_some, length, option_map};
+ghost use Rattle.std.specs.Prelude.{◌≡◌, [], IfOk, IfSome, IsTrue, IsUtf8, is_some, option_map};
 ghost use Rattle.rl_names.specs.Name.{is_name};
 ghost use Rattle.rl_defs.specs.Catalogue.{module_named, IsModule};
 ghost use Rattle.rl_wire.specs.Message.{AreAscending};
+ghost use Rattle.rl_pages.specs.Seen.{shown};
 ghost use Rattle.rl_build.specs.Sight.{sight};
-ghost use Rattle.rl_build.specs.Sheet.{sheet_of, sheet_of_module, AreAllNames, IsLawful};
-ghost use Rattle.rl_build.specs.Payload.{payload_of, payload_of_module, IsBrought};
+ghost use Rattle.rl_build.specs.Sheet.{sheet_of, sheet_of_module, IsLawful};
+ghost use Rattle.rl_build.specs.Payload.{payload_of, payload_of_built_in, payload_of_module, IsBrought};
 
+use crate::built_in::BuiltIn;
 use crate::context::Context;
+use crate::pages::built_in_script;
 use crate::payloads::Payload;
 use crate::sheets::Sheet;
 use crate::texts::{distinct_names, joined};
 use rl_defs::{Catalog, ModuleDef};
-use rl_names::{MAX_ROWS, Name, NoMemory, Seq, Text};
+use rl_names::{NoMemory, Seq, Text};
 use rl_pages::{Pages, Viewer};
 use std::alloc::Global;
 
@@ -59,6 +62,9 @@ pub fn sheet(
     ensures value { IfOk result (λ s. s ≡ sheet_of (sight catalog.now pages.now.entries viewer.now) ctx.now name.now) }
     ensures lawful { IfOk result (λ s. IfSome s IsLawful) }
 {
+    if let Some(built_in) = BuiltIn::named(name) {
+        return Ok(Some(built_in.sheet(alloc)?));
+    }
     match module_of(catalog, name) {
         Some(module) => Ok(Some(sheet_of_module(alloc, module)?)),
         None => Ok(None),
@@ -78,27 +84,11 @@ pub fn group_and_source<'a>(
     ensures source { option_map (λ p. p.1.now) result
         ≡ option_map (λ s. s.source) (sheet_of (sight catalog.now pages.now.entries viewer.now) ctx.now name.now) }
 {
+    if let Some(built_in) = BuiltIn::named(name) {
+        return Some((built_in.group(), "local"));
+    }
     let module = module_of(catalog, name)?;
     Some((module.group.as_str(), module.source.as_str()))
-}
-
-/// All names with a sheet, in byte order.
-pub fn names(
-    alloc: Global,
-    catalog: &Catalog,
-    pages: &Pages,
-    viewer: &Viewer,
-    ctx: &Context,
-) -> Result<Vec<Name>, NoMemory>
-    ensures names { IfOk result (λ v. AreAllNames (sight catalog.now pages.now.entries viewer.now) ctx.now v.items) }
-    ensures few { IfOk result (λ v. length v.items ≤ MAX_ROWS) }
-{
-    let modules = catalog.modules();
-    let mut names = Vec::with_capacity(alloc, catalog.module_count() as usize)?;
-    'modules: for module in modules {
-        names.push(module.name.copy()?)?;
-    }
-    Ok(names)
 }
 
 fn payload_of_module(
@@ -111,6 +101,23 @@ fn payload_of_module(
 {
     Ok(Payload {
         script: joined(alloc, catalog, module.scripts.as_slice())?,
+        styles: Text::of(alloc, "")?,
+        messages: Seq::of(Vec::new(alloc)),
+    })
+}
+
+fn payload_of_built_in(
+    alloc: Global,
+    pages: &Pages,
+    viewer: &Viewer,
+    ctx: &Context,
+    built_in: BuiltIn,
+) -> Result<Payload, NoMemory>
+    ensures value { IfOk result (λ p. p ≡ payload_of_built_in (shown pages.now.entries viewer.now) ctx.now built_in) }
+    ensures texts { IfOk result (λ p. IsUtf8 p.script × IsUtf8 p.styles × (p.messages ≡ [])) }
+{
+    Ok(Payload {
+        script: built_in_script(alloc, pages, viewer, ctx, built_in)?,
         styles: Text::of(alloc, "")?,
         messages: Seq::of(Vec::new(alloc)),
     })
@@ -133,6 +140,9 @@ pub fn payload(
     ensures lawful { IfOk result (λ p. IfSome p (IsBrought name.now)) }
     ensures with_sheet { IfOk result (λ p. is_some p ≡ is_some (sheet_of (sight catalog.now pages.now.entries viewer.now) ctx.now name.now)) }
 {
+    if let Some(built_in) = BuiltIn::named(name) {
+        return Ok(Some(payload_of_built_in(alloc, pages, viewer, ctx, built_in)?));
+    }
     match module_of(catalog, name) {
         Some(module) => Ok(Some(payload_of_module(alloc, catalog, module)?)),
         None => Ok(None),

@@ -2,7 +2,7 @@
 ghost use Rattle.std.specs.Prelude.{IfOk, IfSome};
 ghost use Rattle.rl_wire.specs.Message.{AreAscending};
 
-use crate::{Context, Payload, Sheet, group_and_source, names, payload, sheet, version};
+use crate::{BuiltIn, Context, Payload, Sheet, group_and_source, names, payload, sheet, version};
 use rl_defs::Catalog;
 use rl_names::{NoMemory, Text};
 use rl_pages::{Pages, Viewer};
@@ -104,7 +104,7 @@ fn brought(alloc: Global, catalog: &Catalog, name: &[u8]) -> Result<String, Fail
 
 /// A name, and what it brings. The version is the hash of the JSON array of the script and two
 /// empty objects.
-const PAYLOADS: [(&[u8], &str); 13] = [
+const PAYLOADS: [(&[u8], &str); 14] = [
     (b"a", "96okj [] 0 a()\n"),
     (b"b", "wn61g [] 0 b()\n"),
     (b"none", "186z7 [] 0 "),
@@ -119,7 +119,8 @@ const PAYLOADS: [(&[u8], &str); 13] = [
     (b"zz", "nothing"),
     (b"", "nothing"),
     (b"A", "nothing"),
-    (b"site", "nothing"),
+    (b"site", "186z7 [] 0 "),
+    (b"user.options", "fie8b [] 0 mw.user.options.set({});\n"),
     (b"a\xff", "nothing"),
 ];
 
@@ -155,13 +156,14 @@ fn sheet_line(alloc: Global, catalog: &Catalog, name: &[u8]) -> Result<String, F
 }
 
 /// A name, and what its sheet says.
-const SHEETS: [(&[u8], &str); 7] = [
+const SHEETS: [(&[u8], &str); 8] = [
     (b"a", "[] local;;-"),
     (b"b", "[late] local; site a a.both;promise"),
     (b"p", "[private] local;;-"),
     (b"zz", "nothing"),
     (b"", "nothing"),
-    (b"site", "nothing"),
+    (b"site", "[] local; site.styles;-"),
+    (b"user.options", "[private] local;;-"),
     (b"a\xff", "nothing"),
 ];
 
@@ -175,12 +177,16 @@ fn sheets(rt: HostRuntime) -> Result<(), Fail> {
 }
 
 /// A name with its group and its source.
-const GROUPS: [(&[u8], &str, &str); 5] = [
+const GROUPS: [(&[u8], &str, &str); 9] = [
     (b"a", "", "local"),
     (b"b", "late", "local"),
     (b"p", "private", "local"),
     (b"zz", "-", "-"),
-    (b"user", "-", "-"),
+    (b"site", "", "local"),
+    (b"site.styles", "site", "local"),
+    (b"user", "user", "local"),
+    (b"user.styles", "user", "local"),
+    (b"user.options", "private", "local"),
 ];
 
 #[test]
@@ -213,7 +219,18 @@ fn all_names(alloc: Global, catalog: &Catalog) -> Result<String, Fail> {
 #[test]
 fn names_in_order(rt: HostRuntime) -> Result<(), Fail> {
     let catalog = Catalog::read(rt.alloc(), WIKI.as_bytes())?;
-    let wanted = " a a.both b control empty none p quoted";
+    let wanted =
+        " a a.both b control empty none p quoted site site.styles user user.options user.styles";
     assert_eq!(rt; all_names(rt.alloc(), &catalog)?.as_str(), wanted);
+    Ok(())
+}
+
+#[test]
+fn built_in_modules(rt: HostRuntime) -> Result<(), Fail> {
+    assert!(rt; BuiltIn::named(b"site.styles") == Some(BuiltIn::SiteStyles));
+    assert!(rt; BuiltIn::named(b"user.options") == Some(BuiltIn::UserOptions));
+    assert!(rt; BuiltIn::named(b"site.") == None);
+    assert!(rt; BuiltIn::UserStyles.name() == "user.styles");
+    assert!(rt; BuiltIn::UserStyles.group() == "user");
     Ok(())
 }

@@ -3,7 +3,7 @@ use Rattle.std.proofs.Common.{◌≡◌, ℕ, Bool, true, false, not, cond, List
 use Rattle.std.proofs.Common.{Ok, Err, bytes_eq, refl, sym, ap, ◌∙◌}
 use Rattle.std.specs.Prelude.{filter, flat_map, option_and_then}
 use Rattle.std.specs.List.{AllByRecursion, filter_map}
-use Rattle.std.specs.Option.{option_map_or}
+use Rattle.std.specs.Option.{option_map_or, option_or}
 use Rattle.rl_names.specs.Packing.{distinct}
 use Rattle.rl_names.specs.declared.query.Query.{Query}
 use Rattle.rl_names.specs.declared.query.Only.{Only}
@@ -14,18 +14,21 @@ use Rattle.rl_defs.specs.Catalogue.{Catalogue, file_of, module_named}
 use Rattle.rl_defs.specs.declared.module_def.ModuleDef.{ModuleDef}
 use Rattle.rl_pages.specs.declared.entry.Entry.{Entry}
 use Rattle.rl_pages.specs.declared.viewer.Viewer.{Viewer}
-use Rattle.rl_pages.specs.Seen.{Shown, seen, shown}
+use Rattle.rl_pages.specs.Seen.{Shown, shown}
 use Rattle.rl_build.specs.declared.context.Context.{Context}
 use Rattle.rl_build.specs.declared.payloads.Payload.{Payload}
 use Rattle.rl_build.specs.Context.{context_of}
-use Rattle.rl_build.specs.Sight.{Sight, sight}
-use Rattle.rl_build.specs.Sheet.{sheet_of_module}
-use Rattle.rl_build.specs.Payload.{file_lines, payload_of, payload_of_module, version_of}
+use Rattle.rl_build.specs.Sight.{Sight}
+use Rattle.rl_build.specs.declared.built_in.BuiltIn.{BuiltIn}
+use Rattle.rl_build.specs.BuiltIn.{built_in_named}
+use Rattle.rl_build.specs.Sheet.{sheet_of_built_in, sheet_of_module}
+use Rattle.rl_build.specs.Payload.{file_lines, payload_of, payload_of_built_in, payload_of_module, version_of}
 use Rattle.rl_loadphp.specs.Answer.{age_with, answer_of, answer_to, answered, asked, sent}
 use Rattle.rl_loadphp.specs.Refusal.{Refusal}
 use Rattle.rl_loadphp.specs.Body.{body_of, built, implementation_of, implementations, missing_part, states_text}
-use Rattle.rl_loadphp.specs.Isolation.{if_public, public_module, AnswersAreSeen, DifferInPrivate, PrivateIsUnseen}
-use Rattle.rl_loadphp.specs.Served.{is_served, may_serve, missing, names_of, payloads, query_context, served}
+use Rattle.rl_loadphp.specs.Embed.{embed_of}
+use Rattle.rl_loadphp.specs.Isolation.{if_public, public_module, AnswersAreSeen, EmbedsAreSeen, DifferInPrivate, PrivateIsUnseen}
+use Rattle.rl_loadphp.specs.Served.{is_own, is_served, may_serve, missing, names_of, payloads, query_context, served}
 
 -- ---- lists
 
@@ -58,27 +61,27 @@ all_map P Q (x ∷ xs) f a = (f x a.0, all_map P Q xs f a.1)
 
 -- ---- a private module is served to nobody
 
-serves : List ℕ → Option ModuleDef → Bool
-serves user o = option_map_or (may_serve user) (option_map sheet_of_module o) false
+serves : Bool → Option ModuleDef → Bool
+serves own o = option_map_or (may_serve own) (option_map sheet_of_module o) false
 
-public_serves : (user : List ℕ) (m : ModuleDef) (v : Bool) → bytes_eq m.group (codes "private") ≡ v
+public_serves : (user : Bool) (m : ModuleDef) (v : Bool) → bytes_eq m.group (codes "private") ≡ v
     → may_serve user (sheet_of_module m) ≡ serves user (cond v None (Some m))
 unfolding serves
 public_serves user m true e = rw e refl
 public_serves user m false e = refl
 
-serves_public : (user : List ℕ) (o : Option ModuleDef) → serves user o ≡ serves user (option_and_then if_public o)
+serves_public : (user : Bool) (o : Option ModuleDef) → serves user o ≡ serves user (option_and_then if_public o)
 unfolding serves
 serves_public user None = refl
 serves_public user (Some m) = public_serves user m (bytes_eq m.group (codes "private")) refl
 
 -- what is served is not private
-served_public : (user : List ℕ) (m : ModuleDef) (v : Bool) → bytes_eq m.group (codes "private") ≡ v → may_serve user (sheet_of_module m) ≡ true →
+served_public : (user : Bool) (m : ModuleDef) (v : Bool) → bytes_eq m.group (codes "private") ≡ v → may_serve user (sheet_of_module m) ≡ true →
     cond v None (Some m) ≡ Some m
 served_public user m true e h = let no : may_serve user (sheet_of_module m) ≡ false = rw e refl in absurd (cc)
 served_public user m false e h = refl
 
-served_module : (user : List ℕ) (o : Option ModuleDef) → serves user o ≡ true → option_and_then if_public o ≡ o
+served_module : (user : Bool) (o : Option ModuleDef) → serves user o ≡ true → option_and_then if_public o ≡ o
 unfolding serves
 served_module user None h = absurd (cc)
 served_module user (Some m) h = served_public user m (bytes_eq m.group (codes "private")) refl h
@@ -92,10 +95,17 @@ module _ (h : Shown) (c d : Catalogue) (alike : DifferInPrivate c d) where
   same_context : (lang skin : List ℕ) (debug : Bool) → context_of c lang skin debug ≡ context_of d lang skin debug
   same_context lang skin debug = rw (alike.languages, alike.skins) refl
 
-  same_served : (ctx : Context) (user name : List ℕ) → is_served (over h c) ctx user name ≡ is_served (over h d) ctx user name
+  served_alike : (user : Bool) (b : Option BuiltIn) (o p : Option ModuleDef) → serves user o ≡ serves user p
+      → option_map_or (may_serve user) (option_or (option_map sheet_of_built_in b) (option_map sheet_of_module o)) false
+      ≡ option_map_or (may_serve user) (option_or (option_map sheet_of_built_in b) (option_map sheet_of_module p)) false
   unfolding serves
+  served_alike user None o p e = e
+  served_alike user (Some b) o p e = refl
+
+  same_served : (ctx : Context) (user : Bool) (name : List ℕ) → is_served (over h c) ctx user name ≡ is_served (over h d) ctx user name
   same_served ctx user name =
-      serves_public user (module_named c name) ∙ ap (serves user) (alike.modules name) ∙ sym (serves_public user (module_named d name))
+      served_alike user (built_in_named name) (module_named c name) (module_named d name)
+      (serves_public user (module_named c name) ∙ ap (serves user) (alike.modules name) ∙ sym (serves_public user (module_named d name)))
 
   same_texts : (m : ModuleDef) → AllByRecursion (λ file. file_of c file ≡ file_of d file) m.scripts → payload_of_module c m ≡ payload_of_module d m
   same_texts m files =
@@ -109,15 +119,30 @@ module _ (h : Shown) (c d : Catalogue) (alike : DifferInPrivate c d) where
   brings name None is public is_too = refl
   brings name (Some m) is public is_too = ap Some (same_texts m (alike.files name m public))
 
-  -- what is served brings the same
-  same_brought : (ctx : Context) (user name : List ℕ) → is_served (over h c) ctx user name ≡ true
-      → payload_of (over h c) ctx name ≡ payload_of (over h d) ctx name
-  unfolding serves
-  same_brought ctx user name serves_it =
+  module_brings : (user : Bool) (name : List ℕ) → serves user (module_named c name) ≡ true
+      → option_map (payload_of_module c) (module_named c name) ≡ option_map (payload_of_module d) (module_named d name)
+  module_brings user name serves_it =
       let seen_c : public_module c name ≡ module_named c name = served_module user (module_named c name) serves_it in
-      let seen_d : public_module d name ≡ module_named d name = served_module user (module_named d name) (sym (same_served ctx user name) ∙ serves_it) in
+      let same_test : serves user (module_named c name) ≡ serves user (module_named d name) =
+      serves_public user (module_named c name) ∙ ap (serves user) (alike.modules name) ∙ sym (serves_public user (module_named d name)) in
+      let seen_d : public_module d name ≡ module_named d name = served_module user (module_named d name) (sym same_test ∙ serves_it) in
       let same : module_named d name ≡ module_named c name = sym seen_d ∙ sym (alike.modules name) ∙ seen_c in
       brings name (module_named c name) refl seen_c same ∙ ap (option_map (payload_of_module d)) (sym same)
+
+  brought_alike : (ctx : Context) (user : Bool) (b : Option BuiltIn) (o p : Option ModuleDef)
+      → (serves user o ≡ true → option_map (payload_of_module c) o ≡ option_map (payload_of_module d) p)
+      → option_map_or (may_serve user) (option_or (option_map sheet_of_built_in b) (option_map sheet_of_module o)) false ≡ true
+      → option_or (option_map (payload_of_built_in h ctx) b) (option_map (payload_of_module c) o)
+      ≡ option_or (option_map (payload_of_built_in h ctx) b) (option_map (payload_of_module d) p)
+  unfolding serves
+  brought_alike ctx user None o p same serves_it = same serves_it
+  brought_alike ctx user (Some b) o p same serves_it = refl
+
+  -- what is served brings the same
+  same_brought : (ctx : Context) (user : Bool) (name : List ℕ) → is_served (over h c) ctx user name ≡ true
+      → payload_of (over h c) ctx name ≡ payload_of (over h d) ctx name
+  same_brought ctx user name serves_it =
+      brought_alike ctx user (built_in_named name) (module_named c name) (module_named d name) (module_brings user name) serves_it
 
   module _ (ctx : Context) (names : List (List ℕ))
       (brought : AllByRecursion (λ name. payload_of (over h c) ctx name ≡ payload_of (over h d) ctx name) names) where
@@ -140,18 +165,19 @@ module _ (h : Shown) (c d : Catalogue) (alike : DifferInPrivate c d) where
   same_answer : (q : Query) → answer_to (over h c) q ≡ answer_to (over h d) q
   same_answer q =
       let ctx = query_context c q in
+      let own = is_own (over h c) q in
       let contexts : ctx ≡ query_context d q = same_context q.lang q.skin q.debug in
       let names = served (over h c) q in
       let others = missing (over h c) q in
       let kept : names ≡ served (over h d) q =
-      filter_same (is_served (over h c) ctx q.user) (is_served (over h d) ctx q.user) (names_of q) (same_served ctx q.user)
-      ∙ ap (λ x. filter (is_served (over h d) x q.user) (names_of q)) contexts in
+      filter_same (is_served (over h c) ctx own) (is_served (over h d) ctx own) (names_of q) (same_served ctx own)
+      ∙ ap (λ x. filter (is_served (over h d) x own) (names_of q)) contexts in
       let left : others ≡ missing (over h d) q =
-      filter_same (λ name. not (is_served (over h c) ctx q.user name)) (λ name. not (is_served (over h d) ctx q.user name)) (names_of q)
-      (λ name. ap not (same_served ctx q.user name))
-      ∙ ap (λ x. filter (λ name. not (is_served (over h d) x q.user name)) (names_of q)) contexts in
+      filter_same (λ name. not (is_served (over h c) ctx own name)) (λ name. not (is_served (over h d) ctx own name)) (names_of q)
+      (λ name. ap not (same_served ctx own name))
+      ∙ ap (λ x. filter (λ name. not (is_served (over h d) x own name)) (names_of q)) contexts in
       let brought = kept_pass (λ name. payload_of (over h c) ctx name ≡ payload_of (over h d) ctx name)
-      (is_served (over h c) ctx q.user) (names_of q) (same_brought ctx q.user) in
+      (is_served (over h c) ctx own) (names_of q) (same_brought ctx own) in
       let body : body_of (over h c) ctx q.only names others ≡ body_of (over h d) (query_context d q) q.only (served (over h d) q) (missing (over h d) q) =
       same_body ctx names brought q.only others
       ∙ ap (λ x. body_of (over h d) x q.only names others) contexts
@@ -179,3 +205,7 @@ as_shown viewer entries = record { viewer = viewer; entries = entries }
 pub answers_are_seen : AnswersAreSeen
 unfolding as_shown
 answers_are_seen c entries others viewer same query = ap (λ (es : List Entry). answer_of (over (as_shown viewer es) c) query) same
+
+pub embeds_are_seen : EmbedsAreSeen
+unfolding as_shown
+embeds_are_seen c entries others viewer same ctx = ap (λ (es : List Entry). embed_of (over (as_shown viewer es) c) ctx) same

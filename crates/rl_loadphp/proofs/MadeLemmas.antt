@@ -8,7 +8,6 @@ use Rattle.std.proofs.lemmas.List.Concat.{flat_map-append}
 use Rattle.std.proofs.lemmas.List.Folds.{flat_map-map}
 use Rattle.rl_wire.specs.declared.part.Part.{Part}
 use Rattle.rl_wire.specs.Line.{line, part_text, implement_text, wire_text}
-use Rattle.rl_names.specs.declared.part.Message.{Message}
 use Rattle.rl_build.specs.declared.context.Context.{Context}
 use Rattle.rl_build.specs.declared.payloads.Payload.{Payload}
 use Rattle.rl_build.specs.Sight.{Sight}

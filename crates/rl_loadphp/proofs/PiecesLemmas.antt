@@ -1,23 +1,25 @@
 -- An answer is made of pieces that may be sent.
-use Rattle.std.proofs.Common.{◌≡◌, ℕ, suc, Bool, true, false, cond, ◌&&◌, not, nat_lt, List, [], ◌∷◌, ◌++◌, length, codes, Option, Some}
+use Rattle.std.proofs.Common.{◌≡◌, ℕ, suc, Bool, true, false, cond, ◌&&◌, ◌||◌, not, List, [], ◌∷◌, ◌++◌, codes, Option, Some}
 use Rattle.std.proofs.Common.{None, filter, bytes_eq, refl, sym, ap, ◌∙◌, subst, arith, append-nil}
 use Rattle.std.specs.Prelude.{Contains}
 use Rattle.std.specs.List.{AllByRecursion, flat_map}
 use Rattle.std.specs.Option.{option_map_or}
 use Rattle.std.proofs.lemmas.Bool.{and_parts}
-use Rattle.std.proofs.lemmas.Bool.Decides.{nat_tests}
 use Rattle.std.proofs.lemmas.List.Concat.{flat_map-append}
 use Rattle.std.proofs.lemmas.Slice.Eq.{bytes_eq-Decides}
 use Rattle.rl_names.specs.declared.query.Query.{Query}
 use Rattle.rl_names.specs.declared.query.Only.{Only}
 use Rattle.rl_names.specs.declared.query.Only.TheVariants.{All, Scripts, Styles}
 use Rattle.rl_wire.specs.Line.{line, part_text, state_text}
+use Rattle.rl_pages.specs.declared.viewer.Viewer.{Viewer}
+use Rattle.rl_pages.specs.declared.viewer.Viewer.TheVariants.{Anon, User}
+use Rattle.rl_pages.specs.Viewer.{viewer_of}
 use Rattle.rl_build.specs.declared.sheets.Sheet.{Sheet}
 use Rattle.rl_build.specs.declared.payloads.Payload.{Payload}
 use Rattle.rl_build.specs.Sight.{Sight}
 use Rattle.rl_build.specs.Sheet.{sheet_of}
 use Rattle.rl_build.specs.Payload.{payload_of}
-use Rattle.rl_loadphp.specs.Served.{names_of, query_context, may_serve, is_served, served, missing}
+use Rattle.rl_loadphp.specs.Served.{names_of, query_context, is_own, is_viewer, may_serve, is_served, served, missing}
 use Rattle.rl_loadphp.specs.Body.{body_of, built, states_text, scripts_text}
 use Rattle.rl_loadphp.specs.Sent.{MaySend, Piece, implementation, script, styles, state, IsMadeOfPieces}
 use Rattle.rl_loadphp.specs.Steps.{line_of, script_of, styles_of}
@@ -81,20 +83,29 @@ not_both : (b : Bool) → not b ≡ true → b ≡ true → ⊥
 not_both true h k = cc
 not_both false h k = cc
 
-nobody : (user : List ℕ) (own : Bool) → not (own && nat_lt 0 (length user)) ≡ true → own ≡ true → user ≡ []
-nobody [] own h k = refl
-nobody (b ∷ bs) own h k =
-    let some : nat_lt 0 (length (b ∷ bs)) ≡ true = grind (arith, nat_tests) in
-    absurd (not_both (own && nat_lt 0 (length (b ∷ bs))) h (rw (k, some) refl))
+viewer_is : (viewer other : Viewer) → is_viewer viewer other ≡ true → other ≡ viewer
+viewer_is Anon Anon h = refl
+viewer_is Anon (User name) h = absurd (cc)
+viewer_is (User name) Anon h = absurd (cc)
+viewer_is (User name) (User other) h = ap User (sym ((bytes_eq-Decides name other).0 h))
+
+named_viewer : (viewer : Viewer) (o : Option Viewer) → option_map_or (is_viewer viewer) o false ≡ true → o ≡ Some viewer
+named_viewer viewer None h = absurd (cc)
+named_viewer viewer (Some other) h = ap Some (viewer_is viewer other h)
+
+-- what is a user's own is for that user
+either : (user own : Bool) → (not user || own) ≡ true → user ≡ true → own ≡ true
+either true own h k = h
+either false own h k = absurd (cc)
 
 may_send : (s : Sight) (q : Query) (name : List ℕ) (p : Payload) (o : Option Sheet) → sheet_of s (query_context s.catalogue q) name ≡ o →
-    option_map_or (may_serve q.user) o false ≡ true
+    option_map_or (may_serve (is_own s q)) o false ≡ true
     → IsAsked q name → payload_of s (query_context s.catalogue q) name ≡ Some p → MaySend s q name p
 unfolding IsAsked
 may_send s q name p None e served asked brings = absurd (cc)
 may_send s q name p (Some sheet) e served asked brings =
     let whole = and_parts (not (bytes_eq sheet.group (codes "private")) && bytes_eq sheet.source (codes "local"))
-    (not (bytes_eq sheet.group (codes "user") && nat_lt 0 (length q.user))) served in
+    (not (bytes_eq sheet.group (codes "user")) || is_own s q) served in
     let front = and_parts (not (bytes_eq sheet.group (codes "private"))) (bytes_eq sheet.source (codes "local")) whole.0 in
     record {
       asked = asked;
@@ -102,14 +113,16 @@ may_send s q name p (Some sheet) e served asked brings =
       known = e;
       public = λ is. not_both (bytes_eq sheet.group (codes "private")) front.0 ((bytes_eq-Decides sheet.group (codes "private")).1 is);
       here = (bytes_eq-Decides sheet.source (codes "local")).0 front.1;
-      own = λ is. nobody q.user (bytes_eq sheet.group (codes "user")) whole.1 ((bytes_eq-Decides sheet.group (codes "user")).1 is);
+      own = λ is.
+          named_viewer s.history.viewer (viewer_of q.user)
+          (either (bytes_eq sheet.group (codes "user")) (is_own s q) whole.1 ((bytes_eq-Decides sheet.group (codes "user")).1 is));
       brings = brings;
     }
 
 -- ---- what names bring
 
 IsSent : Sight → Query → List ℕ → Type 0
-IsSent s q name = IsAsked q name × (is_served s (query_context s.catalogue q) q.user name ≡ true)
+IsSent s q name = IsAsked q name × (is_served s (query_context s.catalogue q) (is_own s q) name ≡ true)
 
 brought : (s : Sight) (q : Query) (make : Payload → List ℕ) (name : List ℕ) → ((p : Payload) → MaySend s q name p → Piece s q (make p))
     → IsSent s q name → (o : Option Payload) → payload_of s (query_context s.catalogue q) name ≡ o → IsMadeOfPieces s q (option_map_or make o [])
@@ -148,16 +161,16 @@ all_asked q = contains_all (names_of q) (names_of q) (λ name h. h)
 
 served_sent : (s : Sight) (q : Query) → AllByRecursion (IsSent s q) (served s q)
 unfolding IsSent
-served_sent s q = kept (IsAsked q) (is_served s (query_context s.catalogue q) q.user) (names_of q) (all_asked q)
+served_sent s q = kept (IsAsked q) (is_served s (query_context s.catalogue q) (is_own s q)) (names_of q) (all_asked q)
 
 served_asked : (s : Sight) (q : Query) → AllByRecursion (IsAsked q) (served s q)
 unfolding IsSent
-served_asked s q = first_parts (IsAsked q) (λ (name : List ℕ). is_served s (query_context s.catalogue q) q.user name ≡ true) (served s q) (served_sent s q)
+served_asked s q = first_parts (IsAsked q) (λ (name : List ℕ). is_served s (query_context s.catalogue q) (is_own s q) name ≡ true) (served s q) (served_sent s q)
 
 missing_asked : (s : Sight) (q : Query) → AllByRecursion (IsAsked q) (missing s q)
 missing_asked s q =
-    first_parts (IsAsked q) (λ (name : List ℕ). not (is_served s (query_context s.catalogue q) q.user name) ≡ true) (missing s q)
-    (kept (IsAsked q) (λ (name : List ℕ). not (is_served s (query_context s.catalogue q) q.user name)) (names_of q) (all_asked q))
+    first_parts (IsAsked q) (λ (name : List ℕ). not (is_served s (query_context s.catalogue q) (is_own s q) name) ≡ true) (missing s q)
+    (kept (IsAsked q) (λ (name : List ℕ). not (is_served s (query_context s.catalogue q) (is_own s q) name)) (names_of q) (all_asked q))
 
 missing_made : (s : Sight) (q : Query) → IsMadeOfPieces s q (states_text (codes "missing") (missing s q))
 missing_made s q = states_made s q (codes "missing") (1, omega arith, refl) (missing s q) (missing_asked s q)

@@ -7,23 +7,23 @@ use Rattle.rl_build.specs.Sight.{Sight}
 use Rattle.rl_loadphp.specs.declared.answers.Kind.{Kind}
 use Rattle.rl_loadphp.specs.declared.answers.Answer.{Answer}
 use Rattle.rl_loadphp.specs.Answer.{age_with}
-use Rattle.rl_loadphp.specs.Served.{names_of, query_context, is_served, served, missing}
+use Rattle.rl_loadphp.specs.Served.{names_of, query_context, is_own, is_served, served, missing}
 
-pub served_names : (s : Sight) (q : Query) (ctx : Context) (user : List ℕ) (names these : List (List ℕ))
-    → ctx ≡ query_context s.catalogue q → user ≡ q.user → names ≡ names_of q
-    → these ≡ filter (is_served s ctx user) names → these ≡ served s q
-served_names s q ctx user names these same_ctx same_user same_names is =
-    is ∙ ap (λ (x : Context). filter (is_served s x user) names) same_ctx
-    ∙ ap (λ u. filter (is_served s (query_context s.catalogue q) u) names) same_user
-    ∙ ap (filter (is_served s (query_context s.catalogue q) q.user)) same_names
+pub served_names : (s : Sight) (q : Query) (ctx : Context) (own : Bool) (names these : List (List ℕ))
+    → ctx ≡ query_context s.catalogue q → own ≡ is_own s q → names ≡ names_of q
+    → these ≡ filter (is_served s ctx own) names → these ≡ served s q
+served_names s q ctx own names these same_ctx same_own same_names is =
+    is ∙ ap (λ (x : Context). filter (is_served s x own) names) same_ctx
+    ∙ ap (λ o. filter (is_served s (query_context s.catalogue q) o) names) same_own
+    ∙ ap (filter (is_served s (query_context s.catalogue q) (is_own s q))) same_names
 
-pub missing_names : (s : Sight) (q : Query) (ctx : Context) (user : List ℕ) (names these : List (List ℕ))
-    → ctx ≡ query_context s.catalogue q → user ≡ q.user → names ≡ names_of q →
-    these ≡ filter (λ (name : List ℕ). not (is_served s ctx user name)) names → these ≡ missing s q
-missing_names s q ctx user names these same_ctx same_user same_names is =
-    is ∙ ap (λ (x : Context). filter (λ (name : List ℕ). not (is_served s x user name)) names) same_ctx
-    ∙ ap (λ u. filter (λ (name : List ℕ). not (is_served s (query_context s.catalogue q) u name)) names) same_user
-    ∙ ap (filter (λ (name : List ℕ). not (is_served s (query_context s.catalogue q) q.user name))) same_names
+pub missing_names : (s : Sight) (q : Query) (ctx : Context) (own : Bool) (names these : List (List ℕ))
+    → ctx ≡ query_context s.catalogue q → own ≡ is_own s q → names ≡ names_of q →
+    these ≡ filter (λ (name : List ℕ). not (is_served s ctx own name)) names → these ≡ missing s q
+missing_names s q ctx own names these same_ctx same_own same_names is =
+    is ∙ ap (λ (x : Context). filter (λ (name : List ℕ). not (is_served s x own name)) names) same_ctx
+    ∙ ap (λ o. filter (λ (name : List ℕ). not (is_served s (query_context s.catalogue q) o name)) names) same_own
+    ∙ ap (filter (λ (name : List ℕ). not (is_served s (query_context s.catalogue q) (is_own s q) name))) same_names
 
 pub same_answer : (body of_body : List ℕ) (kind of_kind : Kind) (age of_age : ℕ) (private of_private : Bool) → body ≡ of_body → kind ≡ of_kind →
     age ≡ of_age → private ≡ of_private

@@ -6,8 +6,10 @@ use Rattle.rl_defs.specs.declared.module_def.ModuleDef.{ModuleDef}
 use Rattle.rl_pages.specs.declared.entry.Entry.{Entry}
 use Rattle.rl_pages.specs.declared.viewer.Viewer.{Viewer}
 use Rattle.rl_pages.specs.Seen.{seen}
+use Rattle.rl_build.specs.declared.context.Context.{Context}
 use Rattle.rl_build.specs.Sight.{sight}
 use Rattle.rl_loadphp.specs.Answer.{answer_of}
+use Rattle.rl_loadphp.specs.Embed.{embed_of}
 
 -- a module unless it is private
 abbrev pub if_public : ModuleDef → Option ModuleDef
@@ -34,3 +36,8 @@ PrivateIsUnseen = (c d : Catalogue) → DifferInPrivate c d → (entries : List 
 abbrev pub AnswersAreSeen : Type 0
 AnswersAreSeen = (c : Catalogue) (entries others : List Entry) (viewer : Viewer) → seen viewer entries ≡ seen viewer others → (query : List ℕ)
     → answer_of (sight c entries viewer) query ≡ answer_of (sight c others viewer) query
+
+-- nor does the text that is embedded in a page of that viewer
+abbrev pub EmbedsAreSeen : Type 0
+EmbedsAreSeen = (c : Catalogue) (entries others : List Entry) (viewer : Viewer) → seen viewer entries ≡ seen viewer others → (ctx : Context)
+    → embed_of (sight c entries viewer) ctx ≡ embed_of (sight c others viewer) ctx

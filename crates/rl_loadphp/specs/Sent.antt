@@ -7,6 +7,7 @@ use Rattle.rl_names.specs.declared.query.Only.TheVariants.{All}
 use Rattle.rl_wire.specs.declared.part.Part.{Part}
 use Rattle.rl_wire.specs.Line.{line, implement_text, state_text, wire_text, IsPart}
 use Rattle.rl_wire.specs.Reading.{answer_of as parts_said}
+use Rattle.rl_pages.specs.Viewer.{viewer_of}
 use Rattle.rl_build.specs.declared.sheets.Sheet.{Sheet}
 use Rattle.rl_build.specs.declared.payloads.Payload.{Payload}
 use Rattle.rl_build.specs.Sight.{Sight}
@@ -15,14 +16,14 @@ use Rattle.rl_build.specs.Payload.{payload_of, version_of}
 use Rattle.rl_loadphp.specs.Served.{names_of, query_context}
 
 -- The query asks for this module, which brings this. It is not private, this wiki serves it, and where it is of the
--- group `user` the query names nobody.
+-- group `user` the query names the viewer as its user.
 pub record MaySend (s : Sight) (q : Query) (name : List ℕ) (p : Payload) : Type 0 where
   pub asked : Contains (names_of q) name
   pub sheet : Sheet
   pub known : sheet_of s (query_context s.catalogue q) name ≡ Some sheet
   pub public : sheet.group ≢ codes "private"
   pub here : sheet.source ≡ codes "local"
-  pub own : sheet.group ≡ codes "user" → q.user ≡ []
+  pub own : sheet.group ≡ codes "user" → viewer_of q.user ≡ Some s.history.viewer
   pub brings : payload_of s (query_context s.catalogue q) name ≡ Some p
 
 -- a text that may stand in the answer to a query

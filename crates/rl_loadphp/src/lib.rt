@@ -2,6 +2,7 @@
 #![tactic(auto)]
 
 pub mod answers;
+pub mod embedding;
 pub mod isolation;
 mod lines;
 pub mod requests;
@@ -11,4 +12,5 @@ mod tests;
 mod texts;
 
 pub use answers::{Answer, AnswerError, Kind};
+pub use embedding::embed;
 pub use requests::{answer, read_context, read_query};

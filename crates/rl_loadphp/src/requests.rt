@@ -15,7 +15,7 @@ ghost use Rattle.rl_names.specs.Query.{query_of};
 
 use crate::answers::{Answer, AnswerError, Kind};
 use crate::lines::{Lines, modules};
-use crate::serving::{Asked, sort_out};
+use crate::serving::{Asked, names_viewer, sort_out};
 use crate::texts::{scripts, styles};
 use rl_build::Context;
 use rl_defs::Catalog;
@@ -133,15 +133,8 @@ fn answer_to(
     let ctx = read_context(alloc, catalog, query)?;
     let asked = expand(alloc, query.modules.as_str())?;
     let names = distinct(alloc, &asked)?;
-    let names = sort_out(
-        alloc,
-        catalog,
-        pages,
-        viewer,
-        &ctx,
-        query.user.as_str(),
-        names,
-    )?;
+    let own = names_viewer(alloc, viewer, query.user.as_str())?;
+    let names = sort_out(alloc, catalog, pages, viewer, &ctx, own, names)?;
     let made = make(alloc, catalog, pages, viewer, &ctx, query, &names)?;
     Ok(Answer {
         body: Text::from_string(made.body),

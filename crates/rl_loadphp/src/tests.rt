@@ -1,7 +1,9 @@
 //! Answers as they are worked out by hand, and each refusal at its limit.
 
-use crate::{Answer, AnswerError, Kind, answer, read_context, read_query};
+use crate::{Answer, AnswerError, Kind, answer, embed, read_context, read_query};
+use rl_build::Context;
 use rl_defs::Catalog;
+use rl_names::Text;
 use rl_pages::{Pages, Viewer};
 use std::alloc::Global;
 use std::test::Fail;
@@ -66,8 +68,8 @@ mw.loader.implement(\"both@s5ptl\",\"b()\\na()\\n\",{},{});\n",
     (
         "modules=startup|site|ext.gadget.x",
         Kind::Script,
-        "mw.loader.state({\"startup\":\"missing\"});\n\
-mw.loader.state({\"site\":\"missing\"});\n\
+        "mw.loader.implement(\"site@186z7\",\"\",{},{});\n\
+mw.loader.state({\"startup\":\"missing\"});\n\
 mw.loader.state({\"ext.gadget.x\":\"missing\"});\n",
     ),
     (
@@ -149,6 +151,25 @@ fn bodies(rt: HostRuntime) -> Result<(), Fail> {
         assert_eq!(rt; answer.body.as_str(), body, "{query}");
         assert_eq!(rt; answer.kind, kind, "{query}");
     }
+    Ok(())
+}
+
+/// What is embedded in a page of nobody, by a wiki without pages.
+fn embedded(alloc: Global) -> Result<Text, Fail> {
+    let catalog = Catalog::read(alloc, WIKI.as_bytes())?;
+    let pages = Pages::empty(alloc)?;
+    let ctx = Context::read(alloc, &catalog, b"en", b"vector", false)?;
+    Ok(embed(alloc, &catalog, &pages, &Viewer::Anon, &ctx)?)
+}
+
+#[test]
+fn private_modules(rt: HostRuntime) -> Result<(), Fail> {
+    let text = embedded(rt.alloc())?;
+    assert_eq!(rt;
+        text.as_str(),
+        "mw.loader.implement(\"p@96okj\",\"a()\\n\",{},{});\n\
+mw.loader.implement(\"user.options@fie8b\",\"mw.user.options.set({});\\n\",{},{});\n"
+    );
     Ok(())
 }
 
