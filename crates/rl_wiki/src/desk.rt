@@ -1,9 +1,17 @@
 //! A wiki over a keeper: what is taken is kept first, and stands in the history only then.
-ghost use Rattle.std.specs.Prelude.{◌≡◌, ◌≤◌, length, None, IfErr, IfOk, IsErrOf, option_map};
+ghost use Rattle.std.specs.Prelude.{◌≡◌, ◌≤◌, length, None, IfErr, IfOk, IsErrOf, List, option_map};
+ghost use Rattle.rl_names.specs.Meant.{Gives};
+ghost use Rattle.rl_names.specs.Query.{query_of};
 ghost use Rattle.rl_base.specs.Causes.{Rose};
+ghost use Rattle.rl_pages.specs.declared.entry.Entry.{Entry};
 ghost use Rattle.rl_pages.specs.History.{revision_of};
 ghost use Rattle.rl_pages.specs.Refusals.{checked_edit, checked_choice, IsAccepted};
 ghost use Rattle.rl_pages.specs.Viewer.{IsViewer};
+ghost use Rattle.rl_pages.specs.Seen.{seen};
+ghost use Rattle.rl_build.specs.Sight.{sight};
+ghost use Rattle.rl_loadphp.specs.Answer.{answer_of};
+ghost use Rattle.rl_loadphp.specs.Refusal.{refusal_told};
+ghost use Rattle.rl_loadphp.specs.Sent.{IsMadeOfPieces, SaysParts};
 ghost use Rattle.rl_wiki.specs.Desk.{AreTogether, ChoosesDesk, EditsDesk, RefusesToOpen};
 ghost use Rattle.rl_wiki.specs.Opening.{first_bad, WereRead};
 
@@ -12,6 +20,7 @@ use crate::opening::history_of;
 use crate::wiki::policy_of;
 use rl_defs::Catalog;
 use rl_keeper::{Keeper, KeeperError};
+use rl_loadphp::{Answer, AnswerError, answer};
 use rl_names::Title;
 use rl_pages::{Pages, Policy, Viewer};
 use std::alloc::Global;
@@ -138,6 +147,28 @@ impl<K: Keeper> Desk<K> {
             Err(KeeperError::Failed) => Err(DeskChoiceError::Failed),
             Err(KeeperError::NoMemory) => Err(DeskChoiceError::NoMemory),
         }
+    }
+
+    /// The answer to the bytes of a query.
+    pub fn answer(
+        &self,
+        alloc: Global,
+        viewer: &Viewer,
+        query: &[u8],
+    ) -> Result<Answer, AnswerError>
+        ensures answer { Gives refusal_told result (answer_of (sight self.now.catalogue self.now.entries viewer.now) query.now) }
+
+        // Nothing of a private module is sent, nor of one that another wiki serves, nor of another user's.
+        ensures pieces { IfOk result (λ a. IsMadeOfPieces (sight self.now.catalogue self.now.entries viewer.now) (query_of query.now) a.body) }
+
+        // Of an answer without `only` a reader gets parts.
+        ensures parts { IfOk result (λ a. SaysParts (query_of query.now) a.body) }
+
+        // What the viewer does not see of the history changes nothing.
+        ensures isolation { (others : List Entry) → seen viewer.now self.now.entries ≡ seen viewer.now others
+            → Gives refusal_told result (answer_of (sight self.now.catalogue others viewer.now) query.now) }
+    {
+        answer(alloc, &self.catalog, &self.pages, viewer, query)
     }
 
     /// How many entries the history has.

@@ -1,5 +1,6 @@
 //! What no clause says: worked examples on the built code, with ample memory.
 use crate::{Desk, DeskChoiceError, DeskEditError, OpenError, Wiki};
+use rl_build::Context;
 use rl_defs::Catalog;
 use rl_keeper::{Keeper, MemKeeper};
 use rl_names::{Text, Title};
@@ -62,6 +63,100 @@ fn choices_of_a_wiki(rt: HostRuntime) -> Result<(), Fail> {
     Ok(())
 }
 
+/// The body of the answer to a viewer's query; it begins with `private` where only that viewer may keep it.
+fn answered(alloc: Global, wiki: &Wiki, by: &[u8], query: &str) -> Result<String, Fail> {
+    let viewer = Viewer::read(alloc, by)?;
+    let answer = wiki.answer(alloc, &viewer, query.as_bytes())?;
+    let (start, body) = (
+        if answer.private { "private " } else { "" },
+        answer.body.as_str(),
+    );
+    Ok(format!(in alloc; "{start}{body}")?)
+}
+
+/// A wiki whose site, Ann and Ben have a script each, and where Ann chose a skin.
+fn edited_wiki(alloc: Global) -> Result<Wiki, Fail> {
+    let mut wiki = Wiki::open(alloc, catalog(alloc)?)?;
+    for (by, title) in [
+        (&b"Root"[..], &b"MediaWiki:Fallback.js"[..]),
+        (b"Ann", b"User:Ann/common.js"),
+        (b"Ben", b"User:Ben/common.js"),
+    ] {
+        let _number = edited(alloc, &mut wiki, by, title, 0)?;
+    }
+    let _number = chosen(alloc, &mut wiki, b"Ann")?;
+    Ok(wiki)
+}
+
+/// Who asks for what, and what they are answered. A module of another user, and the options of any, are spelt as a name
+/// that is unknown.
+const ANSWERS: [(&[u8], &str, &str); 6] = [
+    (
+        b"",
+        "modules=site",
+        "mw.loader.implement(\"site@27l1n\",\"text\\n\",{},{});\n",
+    ),
+    (
+        b"",
+        "modules=user",
+        "mw.loader.implement(\"user@186z7\",\"\",{},{});\n",
+    ),
+    (
+        b"Ann",
+        "modules=user&user=_Ann",
+        "private mw.loader.implement(\"user@27l1n\",\"text\\n\",{},{});\n",
+    ),
+    (
+        b"Ann",
+        "modules=user&user=Ben",
+        "private mw.loader.state({\"user\":\"missing\"});\n",
+    ),
+    (
+        b"Ann",
+        "modules=user",
+        "mw.loader.state({\"user\":\"missing\"});\n",
+    ),
+    (
+        b"Ann",
+        "modules=user.options&user=Ann",
+        "private mw.loader.state({\"user.options\":\"missing\"});\n",
+    ),
+];
+
+#[test]
+fn private_and_foreign_modules(rt: HostRuntime) -> Result<(), Fail> {
+    let wiki = edited_wiki(rt.alloc())?;
+    for (by, query, want) in &ANSWERS {
+        assert_eq!(rt; answered(rt.alloc(), &wiki, by, query)?.as_str(), *want);
+    }
+    Ok(())
+}
+
+/// What is embedded in a page of a viewer.
+fn embedded(alloc: Global, wiki: &Wiki, by: &[u8]) -> Result<Text, Fail> {
+    let viewer = Viewer::read(alloc, by)?;
+    let ctx = Context::read(alloc, wiki.catalog(), b"en", b"", false)?;
+    Ok(wiki.embed(alloc, &viewer, &ctx)?)
+}
+
+#[test]
+fn options_of_the_viewer(rt: HostRuntime) -> Result<(), Fail> {
+    let wiki = edited_wiki(rt.alloc())?;
+    let ann = embedded(rt.alloc(), &wiki, b"Ann")?;
+    assert_eq!(rt;
+        ann.as_str(),
+        "mw.loader.implement(\"user.options@zpsgg\",\
+\"mw.user.options.set({\\\"skin\\\":\\\"vector\\\"});\\n\",{},{});\n"
+    );
+    let ben = embedded(rt.alloc(), &wiki, b"Ben")?;
+    assert_eq!(rt;
+        ben.as_str(),
+        "mw.loader.implement(\"user.options@fie8b\",\
+\"mw.user.options.set({});\\n\",{},{});\n"
+    );
+    Ok(())
+}
+
 fn choice(alloc: Global, key: &str) -> Result<Entry, Fail> {
     Ok(Entry::Choice {
         user: Text::of(alloc, "Ann")?,
@@ -121,6 +216,20 @@ fn desk_chosen(
         return Err(DeskChoiceError::NoMemory);
     };
     desk.set_choice(&viewer, key, "v")
+}
+
+/// What nobody is answered.
+fn desk_answered(alloc: Global, desk: &Desk<MemKeeper>, query: &[u8]) -> Result<Text, Fail> {
+    Ok(desk.answer(alloc, &Viewer::Anon, query)?.body)
+}
+
+#[test]
+fn answers_of_a_desk(rt: HostRuntime) -> Result<(), Fail> {
+    let alloc = rt.alloc();
+    let desk = opened(alloc, Vec::new(alloc), Vec::new(alloc))?;
+    let body = desk_answered(alloc, &desk, b"modules=zz")?;
+    assert_eq!(rt; body.as_str(), "mw.loader.state({\"zz\":\"missing\"});\n");
+    Ok(())
 }
 
 /// The call that fails is the first append; what is refused or fails is not kept.

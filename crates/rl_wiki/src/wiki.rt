@@ -1,10 +1,21 @@
 //! A wiki that is kept nowhere.
-ghost use Rattle.std.specs.Prelude.{◌≡◌, [], length, IfOk};
+ghost use Rattle.std.specs.Prelude.{◌≡◌, [], length, IfOk, List};
+ghost use Rattle.rl_names.specs.Meant.{Gives};
+ghost use Rattle.rl_names.specs.Query.{query_of};
+ghost use Rattle.rl_pages.specs.declared.entry.Entry.{Entry};
 ghost use Rattle.rl_pages.specs.Refusals.{checked_edit, checked_choice, IsAccepted};
 ghost use Rattle.rl_pages.specs.Viewer.{IsViewer};
+ghost use Rattle.rl_pages.specs.Seen.{seen};
+ghost use Rattle.rl_build.specs.Sight.{sight};
+ghost use Rattle.rl_loadphp.specs.Answer.{answer_of};
+ghost use Rattle.rl_loadphp.specs.Embed.{embed_of, IsOfParts};
+ghost use Rattle.rl_loadphp.specs.Refusal.{refusal_told};
+ghost use Rattle.rl_loadphp.specs.Sent.{IsMadeOfPieces, SaysParts};
 ghost use Rattle.rl_wiki.specs.Wiki.{Chooses, Edits};
 
+use rl_build::Context;
 use rl_defs::Catalog;
+use rl_loadphp::{Answer, AnswerError, answer, embed};
 use rl_names::{NoMemory, Seq, Text};
 use rl_pages::{ChoiceError, EditError, Pages, Policy, Viewer};
 use std::alloc::Global;
@@ -98,6 +109,42 @@ impl Wiki {
     {
         let entry = self.pages.check_choice(viewer, key, value)?;
         Ok(self.pages.commit(entry))
+    }
+
+    /// The answer to the bytes of a query.
+    pub fn answer(
+        &self,
+        alloc: Global,
+        viewer: &Viewer,
+        query: &[u8],
+    ) -> Result<Answer, AnswerError>
+        ensures answer { Gives refusal_told result (answer_of (sight self.now.catalogue self.now.entries viewer.now) query.now) }
+
+        // Nothing of a private module is sent, nor of one that another wiki serves, nor of another user's.
+        ensures pieces { IfOk result (λ a. IsMadeOfPieces (sight self.now.catalogue self.now.entries viewer.now) (query_of query.now) a.body) }
+
+        // Of an answer without `only` a reader gets parts.
+        ensures parts { IfOk result (λ a. SaysParts (query_of query.now) a.body) }
+
+        // What the viewer does not see of the history changes nothing.
+        ensures isolation { (others : List Entry) → seen viewer.now self.now.entries ≡ seen viewer.now others
+            → Gives refusal_told result (answer_of (sight self.now.catalogue others viewer.now) query.now) }
+    {
+        answer(alloc, &self.catalog, &self.pages, viewer, query)
+    }
+
+    /// The text that is embedded in a page of the viewer: the private modules, in byte order of their names.
+    pub fn embed(&self, alloc: Global, viewer: &Viewer, ctx: &Context) -> Result<Text, NoMemory>
+        ensures text { IfOk result (λ t. t ≡ embed_of (sight self.now.catalogue self.now.entries viewer.now) ctx.now) }
+
+        // A reader gets parts of it.
+        ensures parts { IfOk result IsOfParts }
+
+        // What the viewer does not see of the history changes nothing.
+        ensures isolation { IfOk result (λ t. (others : List Entry) → seen viewer.now self.now.entries ≡ seen viewer.now others
+            → t ≡ embed_of (sight self.now.catalogue others viewer.now) ctx.now) }
+    {
+        embed(alloc, &self.catalog, &self.pages, viewer, ctx)
     }
 
     /// How many edits and choices were taken.

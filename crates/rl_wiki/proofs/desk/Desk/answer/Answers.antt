@@ -1,0 +1,13 @@
+use Rattle.std.proofs.Common.{rules}
+use Rattle.rl_wiki.proofs.AnsweringLemmas.{pieces, unseen}
+use Rattle.rl_wiki.proofs.desk.Desk.answer.Goals as goal
+
+pub returns-clause-pieces : goal.returns-clause-pieces
+returns-clause-pieces g c =
+    pieces c.self.inside.catalog c.args.self.now.catalogue c.self.inside.pages.entries c.args.self.now.entries c.args.viewer.now c.args.query.now
+    c.answer.result (search rules) (search rules) c.answer.ensures.pieces
+
+pub returns-clause-isolation : goal.returns-clause-isolation
+returns-clause-isolation g c =
+    unseen c.self.inside.catalog c.args.self.now.catalogue c.self.inside.pages.entries c.args.self.now.entries c.args.viewer.now c.args.query.now
+    c.answer.result (search rules) (search rules) c.answer.ensures.answer
