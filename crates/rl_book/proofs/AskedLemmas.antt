@@ -32,7 +32,7 @@ use Rattle.rl_book_spec.specs.Traffic.{is_left, requested_by}
 use Rattle.rl_book_spec.specs.declared.Call.{Call}
 use Rattle.rl_book_spec.specs.declared.Stored.{Stored}
 use Rattle.rl_book_spec.proofs.LawfulLemmas.{requests_touch}
-use Rattle.rl_book.specs.Requesting.{after_held, after_request, answer_held, answer_held_at, is_left_at, left_of}
+use Rattle.rl_book.specs.Requesting.{ArePlaces, after_held, after_request, answer_held, answer_held_at, firsts_of, is_left_at, left_of}
 
 -- ---- rows are given their answers, in order
 
@@ -64,6 +64,19 @@ module _ (v : View) (answer : Row → Option Answer) (past : List Event)
       ∙ ap (λ (came : List (Text × Answer)). event.came ++ came)
       (joined (given_by answer row) more ∙ ap (λ (first : Option (Text × Answer)). cons_option first more) (sym brought)))
       (due_all (with_answers (option_to_list (given_by answer row)) event) rows (after_at t k) next (λ j c. within j (contains_tail k rows j c)))
+
+-- ---- the places of parts
+
+firsts_now : (v : View) (past : List Event) (parts : List Part) (rows : List Row)
+    → map (λ (row : Row). part_of parts row.name) (map (versioned v past) rows) ≡ map (λ (row : Row). part_of parts row.name) rows
+firsts_now v past parts [] = refl
+firsts_now v past parts (row ∷ rows) = ap (λ (firsts : List (Option Part)). part_of parts row.name ∷ firsts) (firsts_now v past parts rows)
+
+-- versions change nothing of them
+pub places_seen : (v : View) (past : List Event) (log : List ℕ) (t : Progress) (parts : List Part) (places : List (Option ℕ)) → HasSeen v past log t
+    → ArePlaces v.registered parts places → ArePlaces t.registered parts places
+places_seen v past log t parts places s are =
+    are ∙ sym (ap (λ (r : Registered). firsts_of r parts) (registered_seen v past log t s) ∙ firsts_now v past parts v.registered.rows)
 
 -- ---- what came with the page, where nothing is stored
 

@@ -1,9 +1,14 @@
 pub mod AskedLemmas
 pub mod AskingLemmas
 pub mod CallsLemmas
+pub mod DeliveredLemmas
+pub mod DeliveringLemmas
 pub mod LookingLemmas
+pub mod MarksLemmas
 pub mod NotedLemmas
 pub mod OpenedLemmas
 pub mod OpeningLemmas
 pub mod RequestingLemmas
 pub mod SeenLemmas
+pub mod TakenLemmas
+pub mod UsedLemmas

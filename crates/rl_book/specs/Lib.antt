@@ -1,5 +1,6 @@
 pub mod Asking
 pub mod Calls
+pub mod Delivering
 pub mod Errors
 pub mod Kept
 pub mod Opens

@@ -2,7 +2,9 @@
 #![tactic(auto)]
 
 mod answer;
+mod delivering;
 mod error;
+mod given;
 mod giving;
 mod opening;
 mod requesting;

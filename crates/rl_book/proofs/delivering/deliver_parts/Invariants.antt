@@ -1,0 +1,4 @@
+use Rattle.rl_book.proofs.delivering.deliver_parts.Given as goal
+
+abbrev pub ghosts-take_parts : goal.ghosts-take_parts
+ghosts-take_parts a = record { name = a.blank.name; parts = a.blank.parts }
