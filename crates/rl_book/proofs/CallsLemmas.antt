@@ -55,6 +55,7 @@ use Rattle.rl_book.specs.Calls.{losses_at}
 use Rattle.rl_book.specs.Kept.{IsKept, after_third, booked}
 use Rattle.rl_book.specs.declared.visit.Visit.TheInside.{Inside}
 use Rattle.rl_book.proofs.NotedLemmas.{noted, past_grown, taken_at_most, with_past}
+use Rattle.rl_book.proofs.PartsLemmas.{lose_gives, parts_stay, take_gives}
 use Rattle.rl_book.proofs.SeenLemmas.{seen_loss, seen_quiet}
 
 -- no row is executing
@@ -77,8 +78,9 @@ taken_kept i requests calls k grown traffic few more =
     let long = ap length grown ∙ length-append i.calls.items (Take ∷ []) in
     let most = taken_at_most i.requests in
     let same = ap (λ (t : Traffic). open_count t.asks) traffic in
-    noted i Take i.table requests calls k grown (inr (refl, k.book.stage))
-    (seen_quiet (view_in b) (events_in b) (rows_run b) i.table k.seen k.book.stage) traffic
+    noted i Take i.table i.delivered requests calls k grown (inr (refl, k.book.stage))
+    (seen_quiet (view_in b) (events_in b) (rows_run b) i.table k.seen k.book.stage)
+    (parts_stay b.opening b.past Take i.delivered.items (take_gives b.opening) k.parts) traffic
     (omega (arith, long, most, same, few)) (omega (arith, long, most, same, more))
 
 -- ---- an ask is lost
@@ -144,6 +146,7 @@ lost_kept i ask mark table requests calls k m given traffic grown same =
     let count = ap (λ (t : Traffic). open_count t.asks) traffic in
     let few = k.few_calls in
     let room = k.room in
-    noted i (Lose ask mark) table requests calls k grown (inr (loss_quiet b.opening t ask, k.book.stage))
-    (subst (λ (p : Progress). HasSeen (view_in b) (loss b.opening t ask ∷ events_in b) (rows_run b) p) (sym is) seen) traffic
+    noted i (Lose ask mark) table i.delivered requests calls k grown (inr (loss_quiet b.opening t ask, k.book.stage))
+    (subst (λ (p : Progress). HasSeen (view_in b) (loss b.opening t ask ∷ events_in b) (rows_run b) p) (sym is) seen)
+    (parts_stay b.opening b.past (Lose ask mark) i.delivered.items (lose_gives b.opening ask mark) k.parts) traffic
     (omega (arith, long, fewer, count, few)) (omega (arith, long, fewer, count, room, same))

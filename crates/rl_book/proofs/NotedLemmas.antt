@@ -1,5 +1,6 @@
 -- A view stays one where a call is noted, and where memory ran out before.
-use Rattle.std.proofs.Common.{◌≡◌, ◌+◌, ◌≤◌, ◌<◌, ◌^◌, ◌++◌, ℕ, List, [], ◌∷◌, Bool, false, Global, length, map, take, ap, sym, subst, ◌∙◌, arith, length-append}
+use Rattle.std.proofs.Common.{◌≡◌, ◌+◌, ◌≤◌, ◌<◌, ◌^◌, ◌++◌, ℕ, List, [], ◌∷◌, Bool, false, Global, length}
+use Rattle.std.proofs.Common.{map, take, Option, ap, sym, subst, ◌∙◌, arith, length-append}
 use Rattle.std.specs.declared.vec.Vec.{Vec}
 use Rattle.std.specs.Prelude.{not, reverse, vec_capacity}
 use Rattle.std.proofs.lemmas.List.{reverse-append}
@@ -16,8 +17,9 @@ use Rattle.rl_book_spec.specs.declared.Asked.{Asked}
 use Rattle.rl_book_spec.specs.declared.Call.{Call}
 use Rattle.rl_book_spec.proofs.LaterLemmas.{given_stays}
 use Rattle.rl_book.specs.Calls.{IsRun}
-use Rattle.rl_book.specs.Kept.{IsKept, booked}
+use Rattle.rl_book.specs.Kept.{IsKept, KeepsParts, booked}
 use Rattle.rl_book.specs.declared.answer.Run.{Run}
+use Rattle.rl_book.specs.declared.given.Delivered.{Delivered}
 use Rattle.rl_book.specs.declared.visit.Visit.TheInside.{Inside}
 
 -- the history with these calls
@@ -40,15 +42,17 @@ run_stays i call ran run r = record {
   );
 }
 
-pub noted : (i : Inside) (call : Call) (table : Progress) (requests : Traffic) (calls : Vec Call Global) → IsKept i
+pub noted : (i : Inside) (call : Call) (table : Progress) (delivered : Vec (Option Delivered) Global) (requests : Traffic) (calls : Vec Call Global)
+    → IsKept i
     → calls.items ≡ i.calls.items ++ call ∷ []
     → IsStage (view_in (booked i)) (event_of (booked i).opening (booked i).past call ∷ events_in (booked i)) (rows_run (booked i))
     → HasSeen (view_in (booked i)) (event_of (booked i).opening (booked i).past call ∷ events_in (booked i)) (rows_run (booked i)) table
+    → KeepsParts (booked i).opening (call ∷ (booked i).past) delivered.items
     → requests ≡ traffic_after (booked i).opening (booked i).past call i.requests
     → length calls.items + open_count requests.asks < 2 ^ 32
     → length calls.items + open_count requests.asks ≤ vec_capacity calls
-    → IsKept (record i { table = table; requests = requests; calls = calls })
-noted i call table requests calls k grown stage seen traffic few room =
+    → IsKept (record i { table = table; delivered = delivered; requests = requests; calls = calls })
+noted i call table delivered requests calls k grown stage seen parts traffic few room =
     let o : Opening = (booked i).opening in
     let old : List Call = (booked i).past in
     let past : reverse calls.items ≡ call ∷ old = past_grown i.calls.items calls.items call grown in
@@ -59,6 +63,7 @@ noted i call table requests calls k grown stage seen traffic few room =
           (record { few = k.book.few; distinct = k.book.distinct; stage = stage });
       base = k.base;
       seen = subst (λ (xs : List Call). HasSeen (view_in (with_calls xs)) (events_in (with_calls xs)) (rows_run (with_calls xs)) table) (sym past) seen;
+      parts = subst (λ (xs : List Call). KeepsParts o xs delivered.items) (sym past) parts;
       requests =
           subst (λ (xs : List Call). requests ≡ traffic_in (with_calls xs)) (sym past)
           (traffic ∙ ap (traffic_after o old call) k.requests);
@@ -79,6 +84,7 @@ still_kept i requests calls k e f more =
       book = subst (λ (xs : List Call). IsBook (with_calls xs)) (sym e) k.book;
       base = k.base;
       seen = subst (λ (xs : List Call). HasSeen (view_in (with_calls xs)) (events_in (with_calls xs)) (rows_run (with_calls xs)) i.table) (sym e) k.seen;
+      parts = subst (λ (xs : List Call). KeepsParts (booked i).opening (reverse xs) i.delivered.items) (sym e) k.parts;
       requests = f ∙ subst (λ (xs : List Call). i.requests ≡ traffic_in (with_calls xs)) (sym e) k.requests;
       runs = λ at run there. subst (λ (xs : List Call). IsRun (with_calls xs) (run.row, run.threw) run) (sym e) (k.runs at run there);
       few_runs = k.few_runs;

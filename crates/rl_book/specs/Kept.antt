@@ -1,20 +1,29 @@
 -- What a view keeps, and what it is of its history.
-use Rattle.std.specs.Prelude.{◌≡◌, ◌+◌, ◌≤◌, ◌<◌, ◌^◌, ℕ, List, if◌then◌else◌, fold, length, map, nat_lt, reverse, slice_get, vec_capacity, Some, Result, Ok, Err, []}
+use Rattle.std.specs.Prelude.{◌≡◌, ◌+◌, ◌≤◌, ◌<◌, ◌^◌, ℕ, List, if◌then◌else◌, fold, length, map, nat_lt, option_and_then, reverse, slice_get}
+use Rattle.std.specs.Prelude.{vec_capacity, Option, Some, None, Result, Ok, Err, []}
 use Rattle.std.specs.Option.{option_map_or}
 use Rattle.rl_names.specs.declared.row.Row.{Row}
-use Rattle.rl_view_spec.specs.Closure.{Text}
-use Rattle.rl_view_spec.specs.Progress.{Progress}
+use Rattle.rl_view_spec.specs.Closure.{Text, row_of}
+use Rattle.rl_view_spec.specs.Progress.{Progress, name_at}
 use Rattle.rl_view_spec.specs.View.{GivenUp}
-use Rattle.rl_view.specs.Seen.{HasSeen, given_to}
+use Rattle.rl_view.specs.Seen as seen
+use Rattle.rl_view.specs.Seen.{HasSeen}
 use Rattle.rl_wire.specs.StartupReading.{startup_of}
+use Rattle.rl_wire.specs.declared.part.Part.{Part}
 use Rattle.rl_wire.specs.declared.startup.Startup.{Startup}
 use Rattle.rl_batch.specs.Given.{IsBase}
 use Rattle.rl_batch.specs.Requests.{open_count}
+use Rattle.rl_book_spec.specs.Given.{given_at_touch, given_to}
 use Rattle.rl_book_spec.specs.Kept.{Booked, IsBook, events_in, rows_run, traffic_in, view_in}
+use Rattle.rl_book_spec.specs.Opening.{Opening}
 use Rattle.rl_book_spec.specs.Traffic.{Traffic, asked_of}
+use Rattle.rl_book_spec.specs.declared.Call.{Call}
+use Rattle.rl_book_spec.specs.declared.Origin.{Origin}
+use Rattle.rl_book_spec.specs.declared.Origin.TheVariants as origin
 use Rattle.rl_book.specs.Calls.{IsRun}
 use Rattle.rl_book.specs.Opens.{opening_of}
 use Rattle.rl_book.specs.declared.answer.Run.{Run}
+use Rattle.rl_book.specs.declared.given.Delivered.{Delivered}
 use Rattle.rl_book.specs.declared.visit.Visit.TheInside.{Inside}
 
 -- ---- the history
@@ -37,6 +46,21 @@ booked b = record {
   ran = map (λ run. (run.row, run.threw)) b.runs.items;
 }
 
+-- ---- what was given
+
+-- What is kept of the part that a name was given: the part that it took of an answer. What else it was given it has from its
+-- first touch, and there it is found again.
+abbrev pub KeepsPart : Opening → List Call → Text → Option Delivered → Type 0
+KeepsPart o past name (Some kept) = given_to o past name ≡ Some (kept.part, origin.Wire kept.mark)
+KeepsPart o past name None = (given : Part × Origin) → given_to o past name ≡ Some given
+    → option_and_then (given_at_touch o) (row_of o.registered name) ≡ Some given
+
+-- so for each row
+pub record KeepsParts (o : Opening) (past : List Call) (delivered : List (Option Delivered)) : Type 0 where
+  pub long : length delivered ≡ length o.registered.rows
+  pub each :
+      (row : ℕ) (kept : Option Delivered) → slice_get delivered row ≡ Some kept → KeepsPart o past (name_at o.registered row) kept
+
 -- ---- what is kept beside it
 
 -- what it keeps beside its calls is what follows of them
@@ -44,6 +68,7 @@ pub record IsKept (b : Inside) : Type 0 where
   pub book : IsBook (booked b)
   pub base : IsBase b.plan.base
   pub seen : HasSeen (view_in (booked b)) (events_in (booked b)) (rows_run (booked b)) b.table
+  pub parts : KeepsParts (booked b).opening (booked b).past b.delivered.items
   pub requests : b.requests ≡ traffic_in (booked b)
   pub runs : (at : ℕ) (run : Run) → slice_get b.runs.items at ≡ Some run → IsRun (booked b) (run.row, run.threw) run
   -- each execution is of another row
@@ -58,7 +83,7 @@ pub record IsKept (b : Inside) : Type 0 where
 
 -- each of these rows that counts is given up
 abbrev pub after_giving_up : List ℕ → Progress → Progress
-after_giving_up rows t = fold (λ progress row. given_to row (Some GivenUp) progress) t rows
+after_giving_up rows t = fold (λ progress row. seen.given_to row (Some GivenUp) progress) t rows
 
 -- the rows of the batch of an ask, where the next loss of that batch is the third
 abbrev pub after_third : Traffic → ℕ → Progress → Progress

@@ -8,6 +8,7 @@ mod given;
 mod giving;
 mod opening;
 mod requesting;
+mod running;
 #[cfg(test)]
 mod tests;
 mod touching;

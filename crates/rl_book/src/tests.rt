@@ -3,7 +3,8 @@ ghost use Rattle.std.specs.Prelude.{IfOk};
 ghost use Rattle.rl_batch.specs.Given.{IsBase};
 
 use crate::{LoseRefusal, OpenError, Plan, Visit};
-use rl_names::{Blob, Only, Query, Seq, Text};
+use rl_base::Hears;
+use rl_names::{Blob, Key, NoMemory, Only, Query, Seq, Text};
 use rl_states::Phase;
 use std::alloc::Global;
 use std::test::Fail;
@@ -158,5 +159,42 @@ fn a_loss_of_no_ask(rt: HostRuntime) -> Result<(), Fail> {
     let mut visit = opened(rt.alloc())?;
     let refusal = LoseRefusal::NoSuchAsk { ask: 3, asks: 0 };
     assert!(rt; is_refused(&mut visit, 3, refusal));
+    Ok(())
+}
+
+/// Observers who throw for nothing.
+#[derive(Drop)]
+struct Silent {
+    heard: u32,
+}
+
+impl Hears for Silent {
+    ghost use Rattle.std.specs.Prelude.{⊤, [], false};
+
+    ghost told = { λ _. [] };
+
+    ghost says = { λ _ k s. false };
+
+    ghost same = { λ first t. ⊤ };
+
+    fn hear(&mut self, _key: &Key, _script: &[u8]) -> Result<bool, NoMemory> {
+        self.heard = self.heard.saturating_add(1);
+        Ok(false)
+    }
+}
+
+/// Whether all that is due executes.
+fn resumes(visit: &mut Visit, observers: &mut Silent) -> bool {
+    visit.resume(observers).is_ok()
+}
+
+/// Where nothing is due nobody hears anything.
+#[test]
+fn nothing_is_due(rt: HostRuntime) -> Result<(), Fail> {
+    let mut visit = opened(rt.alloc())?;
+    let mut observers = Silent { heard: 0 };
+    assert!(rt; resumes(&mut visit, &mut observers));
+    assert!(rt; observers.heard == 0);
+    assert!(rt; counts(&visit) == (0, 0, 0));
     Ok(())
 }

@@ -1,21 +1,26 @@
 //! A page view from its opening on: its calls, and all that follows of them.
-ghost use Rattle.std.specs.Prelude.{◌≡◌, ◌<◌, ℕ, Bool, IfErr, IfOk, OnOk, OnErr, Some, length, option_map};
-ghost use Rattle.std.specs.Prelude.{reverse, slice_get};
+ghost use Rattle.std.specs.Prelude.{◌≡◌, ◌<◌, ◌≤◌, ◌++◌, ◌∷◌, [], ℕ, List, Bool, false, IfErr, IfOk, IsTrue, OnOk, OnErr, Some};
+ghost use Rattle.std.specs.Prelude.{length, option_map, reverse, slice_get};
+ghost use Rattle.rl_names.specs.declared.name.Key.{Key};
 ghost use Rattle.rl_batch.specs.Given.{IsBase};
 ghost use Rattle.rl_batch.specs.Requests.{MayBeLost};
 ghost use Rattle.rl_book_spec.specs.Kept.{IsBook, Notes, is_due, plan_in, registered_in, traffic_in};
 ghost use Rattle.rl_book_spec.specs.Traffic.{all_settled};
 ghost use Rattle.rl_book_spec.specs.declared.Call.TheVariants.{Take, Lose};
-ghost use Rattle.rl_book.specs.Calls.{IsRun, Loses, Refuses, StateIs, Takes, batch_at, has_waiting, is_lost_at, is_settled_at, losses_at, next_ask};
+ghost use Rattle.rl_book.specs.Calls.{ExecutesNext, IsRun, Loses, Refuses, Resumes, StateIs, Takes, batch_at, due_row, has_waiting};
+ghost use Rattle.rl_book.specs.Calls.{is_answered, is_lost_at, is_settled_at, losses_at, next_ask};
 ghost use Rattle.rl_book.specs.Opens.{Opens};
 
 use crate::answer::{Ask, Lost, Run};
 use crate::error::{LoseRefusal, OpenError};
+use crate::given::{Delivered, none_delivered};
 use crate::giving::give_up_at_third;
 use crate::opening::{parts_said, rows_said};
+use crate::running::{first_named, run_with};
+use rl_base::Hears;
 use rl_batch::Requests;
 use rl_batch::requests::is_settled;
-use rl_book_spec::{Call, Mark, Plan};
+use rl_book_spec::{Call, Mark, Origin, Plan};
 use rl_names::{Blob, NoMemory};
 use rl_registry::Registry;
 use rl_states::{Phase, Table};
@@ -39,6 +44,9 @@ pub struct Visit {
     embedded: Vec<Part>,
 
     table: Table,
+
+    /// For each row the part of an answer that it took, if it took one.
+    delivered: Vec<Option<Delivered>>,
 
     requests: Requests,
     calls: Vec<Call>,
@@ -67,7 +75,9 @@ impl Visit {
         let rows = rows_said(alloc, startup)?;
         let embedded = parts_said(alloc, plan.embedded.as_bytes())?;
         let registry = Registry::read(alloc, rows, plan.features.as_slice())?;
-        let runs = Vec::with_capacity(alloc, registry.count() as usize)?;
+        let count = registry.count();
+        let runs = Vec::with_capacity(alloc, count as usize)?;
+        let delivered = none_delivered(alloc, count)?;
         let table = Table::open(alloc, registry)?;
         let startup = Blob::of(alloc, startup)?;
         Ok(Visit {
@@ -76,6 +86,7 @@ impl Visit {
             plan,
             embedded,
             table,
+            delivered,
             requests: Requests::new(alloc),
             calls: Vec::new(alloc),
             runs,
@@ -185,6 +196,63 @@ impl Visit {
         ensures { result ≡ has_waiting (traffic_in self.now) }
     {
         self.requests.has_waiting()
+    }
+
+    /// The execution of a row that was answered with an implementation, before any observer was told of it.
+    fn run_of(&self, row: u32) -> Result<Run, NoMemory>
+        requires within { row < length self.now.opening.registered.rows }
+        requires answered { IsTrue (is_answered self.now row) }
+        ensures { IfOk result (λ run. (run.threw ≡ false) × IsRun self.now (row, false) run) }
+    {
+        match &self.delivered[row as usize] {
+            Some(taken) => run_with(row, &taken.part, Origin::Wire { mark: taken.mark }),
+            None => {
+                let name = self.table.registry().row_at(row).name.as_bytes();
+                match first_named(self.embedded.as_slice(), name) {
+                    Some(part) => run_with(row, part, Origin::Embedded),
+                    None => unreachable!(),
+                }
+            }
+        }
+    }
+
+    /// Notes the execution that was due.
+    fn note_run(&mut self, run: Run)
+        requires due { due_row self.old ≡ Some run.row }
+        requires run { IsRun self.old (run.row, run.threw) run }
+        ensures ran { self.new ≡ record self.old { ran = self.old.ran ++ (run.row, run.threw) ∷ [] } }
+        ensures few { length self.new.ran ≤ length self.new.opening.registered.rows }
+    {
+        uncounted::run::<Brand>(&mut self.table, run.row, run.threw, Blank::new(1));
+        self.runs.push_reserved(run);
+    }
+
+    /// Executes the row that is due, if one is, and answers whether one was. The observers are told first; where there is
+    /// no memory for that, nothing executes.
+    fn run_next<O: Hears>(&mut self, observers: &mut O) -> Result<bool, NoMemory>
+        ensures runs { ExecutesNext (O.says observers.old) result self.old self.new (O.told observers.old) (O.told observers.new) }
+        ensures few { length self.new.ran ≤ length self.new.opening.registered.rows }
+        ensures fixed { (k : Key) (s : List ℕ) → O.says observers.new k s ≡ O.says observers.old k s }
+        ensures same { (first : O) → O.same first observers.old → O.same first observers.new }
+    {
+        let Some(row) = uncounted::first_run::<Brand>(&self.table, Blank::new(1)) else {
+            return Ok(false);
+        };
+        let mut run = self.run_of(row)?;
+        run.threw = observers.hear(&run.key, run.script.as_bytes())?;
+        self.note_run(run);
+        Ok(true)
+    }
+
+    /// Executes all that is due, the row of least number first, and tells the observers of each execution before it
+    /// counts. Where memory runs out the first rows executed, and others are due.
+    pub fn resume<O: Hears>(&mut self, observers: &mut O) -> Result<(), NoMemory>
+        ensures runs { Resumes (O.says observers.old) result self.old self.new (O.told observers.old) (O.told observers.new) }
+        ensures fixed { (k : Key) (s : List ℕ) → O.says observers.new k s ≡ O.says observers.old k s }
+        ensures same { (first : O) → O.same first observers.old → O.same first observers.new }
+    {
+        'runs: while self.run_next(observers)? {}
+        Ok(())
     }
 
     /// The state of a name, where it has a row. While executions are due nothing is said of it.
