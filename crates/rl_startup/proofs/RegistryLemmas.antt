@@ -20,7 +20,7 @@ use Rattle.rl_defs.specs.Ascending.{IsAscending}
 use Rattle.rl_startup.specs.declared.modules.Module.{Module}
 use Rattle.rl_startup.specs.Fine.{Fine, HaveDepsBelow}
 use Rattle.rl_startup.specs.Laws.{NeedAtMost}
-use Rattle.rl_startup.specs.Registry.{module_of, AreModules}
+use Rattle.rl_startup.specs.Registry.{module_of}
 use Rattle.rl_startup.specs.Rows.{dep_of, groups_of, names_of, place_in, row_of, rows_of, AreFit, IsFit}
 use Rattle.rl_startup.proofs.FineLemmas.{once_of}
 use Rattle.rl_startup.proofs.RowsLemmas.{rows_are_lawful}
@@ -45,8 +45,9 @@ module _ (s : Sight) (ctx : Context) where
   few_modules names most all few =
       omega (arith, few, ap length (names_stay names (λ name. (all.all name).0)), length-map (filter_map (module_of s ctx) names) (λ (m : Module). m.name))
 
-  pub names_ascend : (modules : List Module) → AreModules s ctx modules → IsAscending (names_of modules)
-  names_ascend modules (names, all, are) =
+  pub names_ascend : (names : List (List ℕ)) (modules : List Module) → AreAllNames s ctx names → modules ≡ filter_map (module_of s ctx) names
+      → IsAscending (names_of modules)
+  names_ascend names modules all are =
       let same : names_of modules ≡ names = ap names_of are ∙ names_stay names (λ name. (all.all name).0) in
       subst IsAscending (sym same) all.ascending
 

@@ -1,5 +1,5 @@
 -- The registry of a wiki: what the client of a viewer is told of its modules, in a context.
-use Rattle.std.specs.Prelude.{◌≡◌, ℕ, List, [], ◌∷◌, if◌then◌else◌, codes, Option, None, option_map}
+use Rattle.std.specs.Prelude.{ℕ, List, [], ◌∷◌, if◌then◌else◌, codes, Option, None, option_map}
 use Rattle.std.specs.List.{filter_map}
 use Rattle.rl_names.specs.declared.part.Source.{Source}
 use Rattle.rl_names.specs.declared.row.Row.{Row}
@@ -7,7 +7,7 @@ use Rattle.rl_wire.specs.Startup.{startup_text}
 use Rattle.rl_wire.specs.declared.startup.Startup.{Startup}
 use Rattle.rl_build.specs.declared.context.Context.{Context}
 use Rattle.rl_build.specs.Payload.{payload_of, version_of}
-use Rattle.rl_build.specs.Sheet.{sheet_of, AreAllNames}
+use Rattle.rl_build.specs.Sheet.{all_names, sheet_of}
 use Rattle.rl_build.specs.Sight.{Sight}
 use Rattle.rl_compact.specs.Compact.{compacted}
 use Rattle.rl_startup.specs.declared.modules.Module.{Module}
@@ -25,23 +25,22 @@ module_of s ctx name =
     option_map (λ sheet. record { name = name; sheet = sheet; version = version_in s ctx name sheet.group }) (sheet_of s ctx name)
 
 -- the modules of all names with a sheet, in byte order
-abbrev pub AreModules : Sight → Context → List Module → Type 0
-AreModules s ctx modules = (names : List (List ℕ)) × AreAllNames s ctx names × (modules ≡ filter_map (module_of s ctx) names)
+abbrev pub modules_of : Sight → Context → List Module
+modules_of s ctx = filter_map (module_of s ctx) (all_names s)
 
 -- ---- the startup text
 
 -- the rows of the registry, with all the dependencies that the sheets say
-abbrev pub AreRows : Sight → Context → List Row → Type 0
-AreRows s ctx rows = (modules : List Module) × AreModules s ctx modules × (rows ≡ rows_of modules)
+unfoldable pub all_rows : Sight → Context → List Row
+all_rows s ctx = rows_of (modules_of s ctx)
 
 -- this wiki serves its modules itself
 abbrev pub this_wiki : List Source
 this_wiki = record { name = codes "local"; url = codes "/load.php" } ∷ []
 
 -- a client starts from the rows without the dependencies that others bring
-abbrev pub IsStart : Sight → Context → Startup → Type 0
-IsStart s ctx startup = (rows : List Row) × AreRows s ctx rows × (startup ≡ record { sources = this_wiki; rows = compacted rows })
+unfoldable pub start_of : Sight → Context → Startup
+start_of s ctx = record { sources = this_wiki; rows = compacted (all_rows s ctx) }
 
--- the startup text
-abbrev pub IsStartupText : Sight → Context → List ℕ → Type 0
-IsStartupText s ctx text = (startup : Startup) × IsStart s ctx startup × (text ≡ startup_text startup)
+unfoldable pub startup_text_of : Sight → Context → List ℕ
+startup_text_of s ctx = startup_text (start_of s ctx)

@@ -3,13 +3,13 @@ ghost use Rattle.std.specs.Prelude.{◌≡◌, ◌++◌, ◌≤◌, IfOk, IfSome
 ghost use Rattle.rl_view_spec.specs.Breach.{breach_of};
 ghost use Rattle.rl_wire.specs.Startup.{AreWritable, IsWritable};
 ghost use Rattle.rl_wire.specs.StartupReading.{startup_of};
-ghost use Rattle.rl_wire.specs.declared.startup.Startup.{Startup};
+ghost use Rattle.rl_defs.specs.Ascending.{IsAscending};
 ghost use Rattle.rl_build.specs.Sight.{sight};
 ghost use Rattle.rl_compact.specs.Compact.{compacted};
 ghost use Rattle.rl_startup.specs.Fine.{Fine};
 ghost use Rattle.rl_startup.specs.Laws.{NeedAtMost};
-ghost use Rattle.rl_startup.specs.Registry.{module_of, this_wiki, version_in, AreModules, AreRows, IsStart, IsStartupText};
-ghost use Rattle.rl_startup.specs.Rows.{AreFit, IsFit};
+ghost use Rattle.rl_startup.specs.Registry.{all_rows, module_of, modules_of, start_of, startup_text_of, this_wiki, version_in};
+ghost use Rattle.rl_startup.specs.Rows.{names_of, AreFit, IsFit};
 
 use crate::modules::{Module, rows_of};
 use rl_build::{Context, names, payload, sheet, version};
@@ -83,7 +83,8 @@ fn modules(
     viewer: &Viewer,
     ctx: &Context,
 ) -> Result<Vec<Module>, NoMemory>
-    ensures value { IfOk result (λ v. AreModules (sight catalog.now pages.now.entries viewer.now) ctx.now v.items) }
+    ensures value { IfOk result (λ v. v.items ≡ modules_of (sight catalog.now pages.now.entries viewer.now) ctx.now) }
+    ensures ascend { IfOk result (λ v. IsAscending (names_of v.items)) }
     ensures few { IfOk result (λ v. length v.items ≤ MAX_ROWS) }
     ensures fit { IfOk result (λ v. AreFit v.items) }
     ensures needs { IfOk result (λ v. NeedAtMost MAX_DEPENDENCIES v.items) }
@@ -105,7 +106,7 @@ fn all_rows(
     viewer: &Viewer,
     ctx: &Context,
 ) -> Result<Vec<Row>, NoMemory>
-    ensures rows { IfOk result (λ v. AreRows (sight catalog.now pages.now.entries viewer.now) ctx.now v.items) }
+    ensures rows { IfOk result (λ v. v.items ≡ all_rows (sight catalog.now pages.now.entries viewer.now) ctx.now) }
     ensures fine { IfOk result (λ v. Fine v.items) }
 {
     let modules = modules(alloc, catalog, pages, viewer, ctx)?;
@@ -122,7 +123,7 @@ pub fn rows(
     viewer: &Viewer,
     ctx: &Context,
 ) -> Result<Vec<Row>, NoMemory>
-    ensures rows { IfOk result (λ v. AreRows (sight catalog.now pages.now.entries viewer.now) ctx.now v.items) }
+    ensures rows { IfOk result (λ v. v.items ≡ all_rows (sight catalog.now pages.now.entries viewer.now) ctx.now) }
 
     // So a registry takes them, and a startup text may be written of them.
     ensures lawful { IfOk result (λ v. breach_of v.items ≡ None) }
@@ -165,11 +166,11 @@ pub fn startup_text(
     viewer: &Viewer,
     ctx: &Context,
 ) -> Result<Text, NoMemory>
-    ensures text { IfOk result (λ t. IsStartupText (sight catalog.now pages.now.entries viewer.now) ctx.now t) }
+    ensures text { IfOk result (λ t. t ≡ startup_text_of (sight catalog.now pages.now.entries viewer.now) ctx.now) }
 
     // A client reads back what was written, and a registry takes its rows.
-    ensures again { IfOk result (λ t. (startup : Startup) × IsStart (sight catalog.now pages.now.entries viewer.now) ctx.now startup
-        × (startup_of t ≡ Ok startup) × (breach_of startup.rows ≡ None)) }
+    ensures again { IfOk result (λ t. startup_of t ≡ Ok (start_of (sight catalog.now pages.now.entries viewer.now) ctx.now)) }
+    ensures lawful { IfOk result (λ _. breach_of (start_of (sight catalog.now pages.now.entries viewer.now) ctx.now).rows ≡ None) }
 {
     let rows = all_rows(alloc, catalog, pages, viewer, ctx)?;
     let startup = start_of(alloc, rows)?;

@@ -4,8 +4,11 @@ ghost use Rattle.rl_wire.specs.Startup.{AreOrdered};
 ghost use Rattle.rl_startup.specs.Rows.{is_private, IsFit};
 
 use crate::modules::{Module, rows_of};
-use rl_build::Sheet;
-use rl_names::{Name, NoMemory, Seq, Source, Text, Version};
+use crate::{rows, startup_text};
+use rl_build::{Context, Sheet};
+use rl_defs::Catalog;
+use rl_names::{Name, NoMemory, Row, Seq, Source, Text, Version};
+use rl_pages::{Pages, Viewer};
 use rl_wire::{Startup, write_startup};
 use std::alloc::Global;
 use std::test::Fail;
@@ -113,5 +116,48 @@ fn groups_are_numbered_by_their_first_row(rt: HostRuntime) -> Result<(), Fail> {
     let wanted =
         "mw.loader.addSource({\"local\":\"/load.php\"});\nmw.loader.register([[\"a\",\"aaaaa\",[1,\"zz\"],2],[\"b\",\"bbbbb\",[],3,\"other\"],[\"c\",\"ccccc\",[0,2],2]]);\n";
     assert_eq!(rt; write_startup(alloc, &startup)?.as_str(), wanted);
+    Ok(())
+}
+
+/// `a` needs `b` and `c`, and `b` needs `c`.
+const THREE: &str = r#"
+[wiki]
+skins = ["vector"]
+[files]
+"a.js" = "a()"
+"b.js" = "b()"
+[modules.a]
+scripts = ["a.js"]
+dependencies = ["b", "c"]
+[modules.b]
+scripts = ["b.js"]
+dependencies = ["c"]
+[modules.c]
+"#;
+
+fn rows_of_three(alloc: Global, catalog: &Catalog) -> Result<Vec<Row>, NoMemory> {
+    let pages = Pages::empty(alloc)?;
+    let ctx = Context::read(alloc, catalog, b"en", b"vector", false)?;
+    rows(alloc, catalog, &pages, &Viewer::Anon, &ctx)
+}
+
+fn text_of_three(alloc: Global, catalog: &Catalog) -> Result<Text, NoMemory> {
+    let pages = Pages::empty(alloc)?;
+    let ctx = Context::read(alloc, catalog, b"en", b"vector", false)?;
+    startup_text(alloc, catalog, &pages, &Viewer::Anon, &ctx)
+}
+
+#[test]
+fn startup_of_three(rt: HostRuntime) -> Result<(), Fail> {
+    let catalog = Catalog::read(rt.alloc(), THREE.as_bytes())?;
+    let rows = rows_of_three(rt.alloc(), &catalog)?;
+    let first = rows.first().ok_or("no row")?;
+    assert_eq!(rt; first.deps.as_slice().len(), 2);
+    let text = text_of_three(rt.alloc(), &catalog)?;
+    assert!(rt;
+        text.as_str().starts_with(
+            "mw.loader.addSource({\"local\":\"/load.php\"});\nmw.loader.register([[\"a\",\"96okj\",[1]],[\"b\",\"wn61g\",[2]],[\"c\",\"186z7\"]"
+        )
+    );
     Ok(())
 }

@@ -1,5 +1,5 @@
 //! A wiki over a keeper: what is taken is kept first, and stands in the history only then.
-ghost use Rattle.std.specs.Prelude.{◌≡◌, ◌≤◌, length, None, IfErr, IfOk, IsErrOf, List, option_map};
+ghost use Rattle.std.specs.Prelude.{◌≡◌, ◌≤◌, length, None, IfErr, IfOk, IsErrOf, List, option_map, Ok};
 ghost use Rattle.rl_names.specs.Meant.{Gives};
 ghost use Rattle.rl_names.specs.Query.{query_of};
 ghost use Rattle.rl_base.specs.Causes.{Rose};
@@ -8,21 +8,26 @@ ghost use Rattle.rl_pages.specs.History.{revision_of};
 ghost use Rattle.rl_pages.specs.Refusals.{checked_edit, checked_choice, IsAccepted};
 ghost use Rattle.rl_pages.specs.Viewer.{IsViewer};
 ghost use Rattle.rl_pages.specs.Seen.{seen};
+ghost use Rattle.rl_view_spec.specs.Breach.{breach_of};
+ghost use Rattle.rl_wire.specs.StartupReading.{startup_of};
 ghost use Rattle.rl_build.specs.Sight.{sight};
 ghost use Rattle.rl_loadphp.specs.Answer.{answer_of};
 ghost use Rattle.rl_loadphp.specs.Refusal.{refusal_told};
 ghost use Rattle.rl_loadphp.specs.Sent.{IsMadeOfPieces, SaysParts};
+ghost use Rattle.rl_startup.specs.Registry.{start_of, startup_text_of};
 ghost use Rattle.rl_wiki.specs.Desk.{AreTogether, ChoosesDesk, EditsDesk, RefusesToOpen};
 ghost use Rattle.rl_wiki.specs.Opening.{first_bad, WereRead};
 
 use crate::error::{DeskChoiceError, DeskEditError, OpenError, Turned};
 use crate::opening::history_of;
 use crate::wiki::policy_of;
+use rl_build::Context;
 use rl_defs::Catalog;
 use rl_keeper::{Keeper, KeeperError};
 use rl_loadphp::{Answer, AnswerError, answer};
-use rl_names::Title;
+use rl_names::{NoMemory, Text, Title};
 use rl_pages::{Pages, Policy, Viewer};
+use rl_startup::startup_text;
 use std::alloc::Global;
 use std::marker::Model;
 
@@ -194,6 +199,21 @@ impl<K: Keeper> Desk<K> {
         ensures { result.now.entries ≡ self.now.entries }
     {
         &self.pages
+    }
+
+    /// The startup text for a viewer: what the viewer's client starts from.
+    pub fn startup(&self, alloc: Global, viewer: &Viewer, ctx: &Context) -> Result<Text, NoMemory>
+        ensures text { IfOk result (λ t. t ≡ startup_text_of (sight self.now.catalogue self.now.entries viewer.now) ctx.now) }
+
+        // A client reads back what it starts from, and a registry takes its rows.
+        ensures again { IfOk result (λ t. startup_of t ≡ Ok (start_of (sight self.now.catalogue self.now.entries viewer.now) ctx.now)) }
+        ensures lawful { IfOk result (λ _. breach_of (start_of (sight self.now.catalogue self.now.entries viewer.now) ctx.now).rows ≡ None) }
+
+        // What the viewer does not see of the history changes nothing.
+        ensures isolation { IfOk result (λ t. (others : List Entry) → seen viewer.now self.now.entries ≡ seen viewer.now others
+            → t ≡ startup_text_of (sight self.now.catalogue others viewer.now) ctx.now) }
+    {
+        startup_text(alloc, &self.catalog, &self.pages, viewer, ctx)
     }
 
     /// The definitions.

@@ -3,7 +3,7 @@ use crate::{Desk, DeskChoiceError, DeskEditError, OpenError, Wiki};
 use rl_build::Context;
 use rl_defs::Catalog;
 use rl_keeper::{Keeper, MemKeeper};
-use rl_names::{Text, Title};
+use rl_names::{NoMemory, Text, Title};
 use rl_pages::{ChoiceError, EditError, Entry, Viewer};
 use std::alloc::Global;
 use std::test::Fail;
@@ -264,5 +264,31 @@ fn a_desk_that_opens_again(rt: HostRuntime) -> Result<(), Fail> {
     let entries = keeper.read_all()?;
     let again = opened(alloc, entries, Vec::new(alloc))?;
     assert!(rt; again.revisions() == 1 && again.catalog().admins().len() == 1);
+    Ok(())
+}
+
+const SOURCES: &str = "mw.loader.addSource({\"local\":\"/load.php\"});\nmw.loader.register([";
+
+fn startup_of_wiki(alloc: Global, wiki: &Wiki) -> Result<Text, NoMemory> {
+    let ctx = Context::read(alloc, wiki.catalog(), b"en", b"vector", false)?;
+    wiki.startup(alloc, &Viewer::Anon, &ctx)
+}
+
+fn startup_of_desk(alloc: Global, desk: &Desk<MemKeeper>) -> Result<Text, NoMemory> {
+    let ctx = Context::read(alloc, desk.catalog(), b"en", b"vector", false)?;
+    desk.startup(alloc, &Viewer::Anon, &ctx)
+}
+
+#[test]
+fn startup_texts(rt: HostRuntime) -> Result<(), Fail> {
+    let alloc = rt.alloc();
+    let wiki = Wiki::open(alloc, catalog(alloc)?)?;
+    let text = startup_of_wiki(alloc, &wiki)?;
+    assert!(rt; text.as_str().starts_with(SOURCES));
+    let desk = opened(alloc, Vec::new(alloc), Vec::new(alloc))
+        .ok()
+        .ok_or("a desk")?;
+    let other = startup_of_desk(alloc, &desk)?;
+    assert_eq!(rt; other.as_str(), text.as_str());
     Ok(())
 }
