@@ -9,3 +9,5 @@ pub mod RefusingLemmas
 pub mod RunningLemmas
 pub mod SummingLemmas
 pub mod TakingLemmas
+pub mod BlamingLemmas
+pub mod UnreadyLemmas

@@ -1,15 +1,14 @@
 -- The summary and readiness.
-use Rattle.std.proofs.Common.{◌≡◌, ℕ, ◌+◌, List, [], ◌∷◌, ◌++◌, Bool, true, false, ◌&&◌, map, Option, Some, None, refl, ap, ap₂}
-use Rattle.std.proofs.Common.{sym, subst, ◌∙◌, ⊎_elim, arith, nat_eq, reverse}
-use Rattle.std.specs.Prelude.{codes, flat_map, if◌then◌else◌, is_none, slice_get}
-use Rattle.std.specs.List.{list_all, list_any}
+use Rattle.std.proofs.Common.{◌≡◌, ℕ, ◌+◌, List, [], ◌++◌, Bool, true, false, map, Option, Some, None, refl, ap, ap₂}
+use Rattle.std.proofs.Common.{sym, subst, ◌∙◌, arith, nat_eq}
+use Rattle.std.specs.Prelude.{codes, flat_map, if◌then◌else◌, slice_get}
+use Rattle.std.specs.List.{list_any}
 use Rattle.std.specs.Option.{option_map_or}
 use Rattle.std.proofs.lemmas.Bool.{false_from_ne_true, true_from_ne_false}
-use Rattle.std.proofs.lemmas.List.{reverse-append}
-use Rattle.std.proofs.lemmas.List.Folds.{flat_map-map, list_all-append}
+use Rattle.std.proofs.lemmas.List.Folds.{flat_map-map}
 use Rattle.rl_names.specs.declared.row.Row.{Row}
 use Rattle.rl_view_spec.specs.declared.Phase.{Phase}
-use Rattle.rl_view_spec.specs.Closure.{Text, refusal_of, resolves}
+use Rattle.rl_view_spec.specs.Closure.{Text, refusal_of}
 use Rattle.rl_view_spec.specs.Laws.{AreLawful}
 use Rattle.rl_view_spec.specs.Numbers.{number_of}
 use Rattle.rl_view_spec.specs.Progress.{name_at, row_numbers, is_touched_at, has_run, phase_of}
@@ -17,13 +16,11 @@ use Rattle.rl_view_spec.specs.View.{View, Event, is_touched, log_of, state_of}
 use Rattle.rl_view_spec.proofs.PlacesLemmas.{name_there, number_within}
 use Rattle.rl_view_spec.proofs.ResolveLemmas.{closure_itself, resolves_accepted, touched_resolves}
 use Rattle.rl_view_spec.proofs.StatesLemmas.{untouched}
-use Rattle.rl_view_spec.proofs.ToolsLemmas.{all_each, each_all, contains_cases, contains_none, place_there}
+use Rattle.rl_view_spec.proofs.ToolsLemmas.{all_each, place_there}
 use Rattle.rl_rows.proofs.EdgesLemmas.{number_found, number_named}
-use Rattle.rl_script_spec.specs.Output.{are_ready, executed_line, executed_told, is_ready, line, run_text, state_line, state_word, states_told, was_served}
-use Rattle.rl_script_spec.specs.declared.Step.{Step}
-use Rattle.rl_script_spec.specs.declared.Step.TheVariants.{Using, Load, Impl, State}
+use Rattle.rl_script_spec.specs.Output.{are_ready, executed_line, executed_told, is_ready, line, run_text, state_line, state_word, states_told}
 use Rattle.rl_view.proofs.ReadingsLemmas.{found_seen, numbers_seen, phase_seen, ran_seen, touched_seen}
-use Rattle.rl_drive.specs.Played.{executed_lines, is_ready_at, is_served_at, run_at, state_at, state_lines}
+use Rattle.rl_drive.specs.Played.{executed_lines, is_ready_at, run_at, state_at, state_lines}
 use Rattle.rl_drive.specs.Player.{Sees, held}
 use Rattle.rl_drive.specs.declared.player.Player.{Player}
 use Rattle.rl_drive.proofs.ListsLemmas.{flat_map_alike, flat_map_if, flat_map_numbers}
@@ -97,54 +94,8 @@ ready_alike v past p name lawful s =
         ap is_ready (phase_seen v past p.table k m.0 lawful s.table m.1)
         ∙ ap (λ (x : Text). is_ready (state_of v past x)) (sym (name_there v.registered k m.0 m.1) ∙ n.1)
 
-all_alike : {X : Type 0} (p q : X → Bool) (xs : List X) → ((x : X) → p x ≡ q x) → list_all p xs ≡ list_all q xs
-all_alike p q [] each = refl
-all_alike p q (x ∷ xs) each = ap₂ (λ (a b : Bool). a && b) (each x) (all_alike p q xs each)
-
-and_implied : (a b : Bool) → (b ≡ true → a ≡ true) → b ≡ (a && b)
-and_implied true b h = refl
-and_implied false false h = refl
-and_implied false true h = sym (h refl)
-
 -- a name that is ready was accepted
-ready_resolves : (v : View) (past : List Event) (names : List Text) → AreLawful v past → are_ready v past names ≡ true →
+pub ready_resolves : (v : View) (past : List Event) (names : List Text) → AreLawful v past → are_ready v past names ≡ true →
     refusal_of v.registered names ≡ None
 ready_resolves v past names lawful h = resolves_accepted v.registered names (λ name c.
     touched_resolves v past name lawful (touched_ready v past name (all_each (λ name. is_ready (state_of v past name)) names name h c)))
-
-each_resolves : (v : View) (past : List Event) (names : List Text) → AreLawful v past → are_ready v past names ≡ true →
-    list_all (resolves v.registered) names ≡ true
-each_resolves v past names lawful h = each_all (resolves v.registered) names (λ name c.
-    ap is_none (resolves_accepted v.registered (name ∷ []) (λ other d. ⊎_elim
-    (λ e. touched_resolves v past other lawful (touched_ready v past other
-    (subst (λ (x : Text). is_ready (state_of v past x) ≡ true) e (all_each (λ name. is_ready (state_of v past name)) names name h c))))
-    (λ none. absurd (contains_none other none)) (contains_cases name [] other d))))
-
-pub served_alike : (v : View) (past : List Event) (p : Player) (step : Step) → AreLawful v past → Sees v past (log_of v past) p
-    → is_served_at p.table step ≡ was_served v past step
-served_alike v past p (Using names) lawful s =
-    all_alike (is_ready_at p.table) (λ name. is_ready (state_of v past name)) names (λ name. ready_alike v past p name lawful s)
-    ∙ and_implied (is_none (refusal_of v.registered names)) (are_ready v past names) (λ h. ap is_none (ready_resolves v past names lawful h))
-served_alike v past p (Load names) lawful s =
-    all_alike (is_ready_at p.table) (λ name. is_ready (state_of v past name)) names (λ name. ready_alike v past p name lawful s)
-    ∙ and_implied (list_all (resolves v.registered) names) (are_ready v past names) (λ h. each_resolves v past names lawful h)
-served_alike v past p (Impl key script) lawful s = refl
-served_alike v past p (State name kind) lawful s = refl
-
--- in either order
-pub all_reversed : {X : Type 0} (p : X → Bool) (xs : List X) → list_all p (reverse xs) ≡ list_all p xs
-all_reversed p [] = refl
-all_reversed p (x ∷ xs) = ap (list_all p) (reverse-append (x ∷ []) xs) ∙ list_all-append p (reverse xs) (x ∷ [])
-    ∙ ap (λ (b : Bool). b && (p x && true)) (all_reversed p xs) ∙ turned (list_all p xs) (p x)
-  where
-    turned : (a b : Bool) → (a && (b && true)) ≡ (b && a)
-    turned true true = refl
-    turned true false = refl
-    turned false true = refl
-    turned false false = refl
-
-pub all_served : (v : View) (past : List Event) (p : Player) (steps : List Step) → AreLawful v past → Sees v past (log_of v past) p
-    → list_all (is_served_at p.table) steps ≡ list_all (was_served v past) (reverse steps)
-all_served v past p steps lawful s =
-    all_alike (is_served_at p.table) (was_served v past) steps (λ step. served_alike v past p step lawful s)
-    ∙ sym (all_reversed (was_served v past) steps)

@@ -4,3 +4,4 @@ pub mod Given
 pub mod Hearing
 pub mod Played
 pub mod Player
+pub mod Blamed

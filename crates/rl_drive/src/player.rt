@@ -28,10 +28,10 @@ use std::sync::ledger::Blank;
 /// A view of which some steps were played.
 #[derive(Drop)]
 pub struct Player<'a> {
-    alloc: Global,
-    table: Table,
+    pub(crate) alloc: Global,
+    pub(crate) table: Table,
     /// The implementation of each row.
-    given: Vec<Option<Given<'a>>>,
+    pub(crate) given: Vec<Option<Given<'a>>>,
     ghost idle: { table.executing ≡ None },
     ghost long: { length given.items ≡ length table.registered.rows },
 }
@@ -343,7 +343,7 @@ impl<'a> Player<'a> {
     }
 
     /// Whether a name has a row that is ready.
-    fn is_ready(&self, name: &Text) -> bool
+    pub(crate) fn is_ready(&self, name: &Text) -> bool
         requires { next_row self.now.table ≡ None }
         ensures { result ≡ is_ready_at self.now.table name.now }
     {
@@ -353,7 +353,7 @@ impl<'a> Player<'a> {
         }
     }
 
-    fn are_ready(&self, names: &[Text]) -> bool
+    pub(crate) fn are_ready(&self, names: &[Text]) -> bool
         requires { next_row self.now.table ≡ None }
         ensures { result ≡ list_all (is_ready_at self.now.table) names.now }
     {
@@ -361,7 +361,7 @@ impl<'a> Player<'a> {
     }
 
     /// Whether each name that a step requests is ready. A name that was refused or dropped never is.
-    fn is_served(&self, step: &Step) -> bool
+    pub(crate) fn is_served(&self, step: &Step) -> bool
         requires { next_row self.now.table ≡ None }
         ensures { result ≡ is_served_at self.now.table step.now }
     {
@@ -369,14 +369,6 @@ impl<'a> Player<'a> {
             Step::Using { names } | Step::Load { names } => self.are_ready(names.as_slice()),
             Step::Impl { .. } | Step::State { .. } => true,
         }
-    }
-
-    /// Whether each name that the steps requested is ready.
-    pub fn all_served(&self, steps: &[Step]) -> bool
-        requires { next_row self.now.table ≡ None }
-        ensures { result ≡ list_all (is_served_at self.now.table) steps.now }
-    {
-        steps.iter().all(|step| self.is_served(step))
     }
 }
 

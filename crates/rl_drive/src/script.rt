@@ -1,7 +1,8 @@
 //! A whole script, from its bytes.
-ghost use Rattle.std.specs.Prelude.{◌≡◌, ℕ, List};
+ghost use Rattle.std.specs.Prelude.{◌≡◌, ℕ, List, IfOk};
 ghost use Rattle.rl_names.specs.declared.name.Key.{Key};
 ghost use Rattle.rl_script_spec.specs.Script.{verdict_of};
+ghost use Rattle.rl_script_spec.specs.Unready.{unready_in};
 ghost use Rattle.rl_view.specs.Heard.{throws_by};
 ghost use Rattle.rl_drive.specs.Drives.{Concludes};
 ghost use Rattle.rl_drive.specs.Hearing.{AreHeard, executions_in};
@@ -84,9 +85,10 @@ impl From<RegistryError> for DriveError {
 /// Reads a script and plays its steps on a view of its rows. The observers are told of each execution, in their order: each
 /// makes room for it, and then each is told, also after one threw. A row threw where one of them throws, which they do as
 /// they did when the call began. Each of them then heard the executions of the script, after what it had heard; where
-/// memory ran out a front of these; and of a script that is refused nothing.
+/// memory ran out a front of these; and of a script that is refused nothing. Where not everything was served, it is told why.
 pub fn drive<O: Hears>(alloc: Global, bytes: &[u8], observers: &mut O) -> Result<Driven, DriveError>
     ensures verdict { Concludes result (verdict_of (throws_by (O.says observers.old)) bytes.now) }
+    ensures unready { IfOk result (λ driven. driven.unready ≡ unready_in (throws_by (O.says observers.old)) bytes.now) }
     ensures heard { AreHeard result (executions_in (throws_by (O.says observers.old)) bytes.now) (O.told observers.old) (O.told observers.new) }
     ensures fixed { (k : Key) (s : List ℕ) → O.says observers.new k s ≡ O.says observers.old k s }
     ensures same { (first : O) → O.same first observers.old → O.same first observers.new }

@@ -2,6 +2,7 @@
 ghost use Rattle.std.specs.Prelude.{◌≡◌, ℕ, List, IfOk, reverse};
 ghost use Rattle.rl_names.specs.declared.name.Key.{Key};
 ghost use Rattle.rl_script_spec.specs.Output.{all_ready, events_of, output_of};
+ghost use Rattle.rl_script_spec.specs.Unready.{unready_of};
 ghost use Rattle.rl_view.specs.Heard.{executions, watched};
 ghost use Rattle.rl_drive.specs.Hearing.{ArePlayed};
 
@@ -9,7 +10,7 @@ use crate::player::Player;
 use rl_base::Hears;
 use rl_names::NoMemory;
 use rl_registry::Registry;
-use rl_script_spec::Step;
+use rl_script_spec::{Step, Unready};
 use std::alloc::Global;
 
 /// What a script came to.
@@ -19,6 +20,8 @@ pub struct Driven {
     pub text: Vec<u8>,
     /// No request was refused, no name was dropped, and each name that was requested is ready in the end.
     pub ready: bool,
+    /// Why not, where that does not hold.
+    pub unready: Option<Unready>,
 }
 
 /// Plays the steps, in order, on a view of the registry, whose observers are told of each run before it counts: a row threw
@@ -31,6 +34,7 @@ pub fn play<O: Hears>(
 ) -> Result<Driven, NoMemory>
     ensures text { IfOk result (λ driven. driven.text.items ≡ output_of (watched (O.says observers.old) registry) (reverse steps.now)) }
     ensures ready { IfOk result (λ driven. driven.ready ≡ all_ready (watched (O.says observers.old) registry) (reverse steps.now)) }
+    ensures unready { IfOk result (λ driven. driven.unready ≡ unready_of (watched (O.says observers.old) registry) (reverse steps.now)) }
     ensures heard { ArePlayed result (executions (watched (O.says observers.old) registry) (events_of registry (reverse steps.now)))
         (O.told observers.old) (O.told observers.new) }
     ensures fixed { (k : Key) (s : List ℕ) → O.says observers.new k s ≡ O.says observers.old k s }
@@ -42,6 +46,10 @@ pub fn play<O: Hears>(
         player.step(step, observers, &mut text)?;
     }
     player.summary(&mut text)?;
-    let ready = player.all_served(steps);
-    Ok(Driven { text, ready })
+    let unready = player.unready(steps)?;
+    Ok(Driven {
+        text,
+        ready: unready.is_none(),
+        unready,
+    })
 }

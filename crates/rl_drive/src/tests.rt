@@ -6,7 +6,7 @@ use crate::{DriveError, Driven, drive, play};
 use rl_base::Hears;
 use rl_names::{Dep, Group, Key, Name, NoMemory, Row, Seq, StateKind, Text, Version};
 use rl_registry::Registry;
-use rl_script_spec::Step;
+use rl_script_spec::{Step, Unready};
 use std::alloc::Global;
 use std::test::Fail;
 
@@ -30,11 +30,40 @@ impl Hears for ThrowFor {
     }
 }
 
-/// What a script comes to: what is printed for it, and a line that says whether all is ready; or why it came to nothing.
-fn driven(alloc: Global, script: &[u8]) -> Result<Vec<u8>, NoMemory> {
-    match drive(alloc, script, &mut ThrowFor { name: b"" }) {
-        Ok(Driven { mut text, ready }) => {
-            let end = if ready { "done\n" } else { "not ready\n" };
+/// A line that says why not everything was served.
+fn told(alloc: Global, unready: &Option<Unready>) -> Result<String, NoMemory> {
+    match unready {
+        None => Ok(String::from_str(alloc, "done\n")?),
+        Some(Unready::Refused { step, name, why }) => {
+            let name = name.as_str();
+            Ok(format!(in alloc; "step {step}: {name} {why:?}\n")?)
+        }
+        Some(
+            Unready::NotReady {
+                name,
+                state,
+                member,
+                blame,
+            },
+        ) => {
+            let (name, member) = (name.as_str(), member.as_str());
+            Ok(format!(in alloc; "{name} {state:?}: {member} {blame:?}\n")?)
+        }
+    }
+}
+
+/// What a script comes to, where a module of this name throws: what is printed for it, and a line that says why not all is
+/// ready; or why it came to nothing.
+fn driven(alloc: Global, script: &[u8], thrown: &'static [u8]) -> Result<Vec<u8>, NoMemory> {
+    match drive(alloc, script, &mut ThrowFor { name: thrown }) {
+        Ok(
+            Driven {
+                mut text,
+                ready: _,
+                unready,
+            },
+        ) => {
+            let end = told(alloc, &unready)?;
             text.extend_from_slice(end.as_bytes())?;
             Ok(text)
         }
@@ -77,7 +106,7 @@ done
 ";
 
 /// Scripts, and what they come to.
-const SCRIPTS: [(&str, &str); 7] = [
+const SCRIPTS: [(&str, &str); 9] = [
     (CHAIN_OF_THREE, CHAIN_OF_THREE_OUTPUT),
     // a request that is refused touches nothing, and what it names is not ready
     (
@@ -88,7 +117,7 @@ const SCRIPTS: [(&str, &str); 7] = [
 ["impl","B@bbbbb","b()"]
 ["impl","A@aaaaa","a()"]"#,
         "using ok\nusing unknown zz\npassed\nused\nran A@aaaaa 3\n\
-summary\nview 0\nready A@aaaaa\nexecuted A@aaaaa 3\nnot ready\n",
+summary\nview 0\nready A@aaaaa\nexecuted A@aaaaa 3\nstep 2: zz Unknown\n",
     ),
     // an unknown name comes before one that leads back to itself
     (
@@ -96,7 +125,7 @@ summary\nview 0\nready A@aaaaa\nexecuted A@aaaaa 3\nnot ready\n",
 ["row","B","bbbbb",["A","zz"]]
 ["using",["B"]]
 ["using",["A"]]"#,
-        "using unknown zz\nusing cycle A\nsummary\nview 0\nnot ready\n",
+        "using unknown zz\nusing cycle A\nsummary\nview 0\nstep 1: zz Unknown\n",
     ),
     // two ways to one row; names and dependencies that stand twice; lengths are in bytes
     (
@@ -124,6 +153,27 @@ executed D@ddddd 3\nexecuted B@bbbbb 0\nexecuted C@ccccc 3\nexecuted E@eeeee 5\n
         "using ok\nused\nran B@00000 3\nusing ok\nused\nran @w/a@aaaaa 3\n\
 summary\nview 0\nready @w/a@aaaaa\nready B@00000\nexecuted @w/a@aaaaa 3\nexecuted B@00000 3\ndone\n",
     ),
+    // of what A waits for the least name is blamed, and not A, which has its part
+    (
+        r#"["row","A","aaaaa",["d","c"]]
+["row","d","ddddd"]
+["row","c","ccccc"]
+["load",["A"]]
+["impl","A@aaaaa","a()"]
+["state","d","error"]
+["state","c","missing"]"#,
+        "load dropped 0\nused\nused\nused\nsummary\nview 0\n\
+error A@aaaaa\nerror d@ddddd\nmissing c@ccccc\nA Error: c Missing\n",
+    ),
+    // a step counts where it is no request; a name that is dropped is told before one that is not ready
+    (
+        r#"["row","A","aaaaa"]
+["row","B","bbbbb",["B"]]
+["impl","A@aaaaa","a()"]
+["load",["A"]]
+["load",["A","B"]]"#,
+        "passed\nload dropped 0\nload dropped 1\nsummary\nview 0\nloading A@aaaaa\nstep 3: B Cycle\n",
+    ),
     (
         "[\"row\",\"A\",\"aaaaa\"]\n[\"row\",\"A\",\"aaaaa\"]\n[\"using\"]",
         "bad line 3 1\n",
@@ -138,7 +188,7 @@ summary\nview 0\nready @w/a@aaaaa\nready B@00000\nexecuted @w/a@aaaaa 3\nexecute
 fn scripts(rt: HostRuntime) -> Result<(), Fail> {
     let alloc = rt.alloc();
     for (script, output) in SCRIPTS {
-        let printed = driven(alloc, script.as_bytes())?;
+        let printed = driven(alloc, script.as_bytes(), b"")?;
         assert_eq!(rt; printed.as_slice(), output.as_bytes(), "of {script}");
     }
     Ok(())
@@ -163,7 +213,7 @@ fn refused_rows(rt: HostRuntime) -> Result<(), Fail> {
         (258, "too many Dependencies 258\n"),
     ] {
         let script = twins(alloc, dependencies)?;
-        let answer = driven(alloc, script.as_bytes())?;
+        let answer = driven(alloc, script.as_bytes(), b"")?;
         assert_eq!(rt; answer.as_slice(), want.as_bytes(), "of {dependencies}");
     }
     Ok(())
@@ -322,13 +372,11 @@ fn steps_by_hand(rt: HostRuntime) -> Result<(), Fail> {
 #[test]
 fn a_module_throws(rt: HostRuntime) -> Result<(), Fail> {
     let alloc = rt.alloc();
-    let mut observers = ThrowFor { name: b"B" };
-    let driven = drive(alloc, CHAIN_OF_THREE.as_bytes(), &mut observers)?;
-    assert!(rt; !driven.ready);
+    let printed = driven(alloc, CHAIN_OF_THREE.as_bytes(), b"B")?;
     assert_eq!(rt;
-        driven.text.as_slice(),
+        printed.as_slice(),
         b"using ok\nused\nused\nused\nran C@ccccc 3\nthrew B@bbbbb 3\nsummary\nview 0\n\
-error A@aaaaa\nerror B@bbbbb\nready C@ccccc\nexecuted B@bbbbb 3\nexecuted C@ccccc 3\n"
+error A@aaaaa\nerror B@bbbbb\nready C@ccccc\nexecuted B@bbbbb 3\nexecuted C@ccccc 3\nA Error: B Threw\n"
             .as_slice()
     );
     Ok(())

@@ -6,6 +6,7 @@ use Rattle.rl_registry.specs.Answered.{Registers}
 use Rattle.rl_script.specs.Reads.{Tells}
 use Rattle.rl_script_spec.specs.Output.{all_ready, events_of, output_of}
 use Rattle.rl_script_spec.specs.Script.{BadLine, first_fault, lines_of, registered_in, steps_in, verdict_of}
+use Rattle.rl_script_spec.specs.Unready.{unready_of}
 use Rattle.rl_script_spec.specs.declared.Step.{Step}
 use Rattle.rl_view.specs.Heard.{HearsFront, after_hearing, executions, throws_by, watched}
 use Rattle.rl_drive.specs.Hearing.{executions_in}
@@ -86,6 +87,19 @@ returns-clause-verdict g c =
     ∙ ap₂ (λ (r : Registered) (steps : List Step). output_of (watched says r) (reverse steps)) registry c.as_slice-2.ensures.value)
     (c.in_ok-driven.ensures.ready
     ∙ ap₂ (λ (r : Registered) (steps : List Step). all_ready (watched says r) (reverse steps)) registry c.as_slice-2.ensures.value)
+
+pub returns-clause-unready : goal.returns-clause-unready
+returns-clause-unready g c =
+    let says = g.O.Hears.says c.args.observers.now in
+    let text : c.in-Ok.text.now ≡ c.args.bytes.now = c.in-Ok.ensures.cases.0 in
+    let r : Registered = said c.in_ok-rows.field-0.rows c.in_ok-rows.field-0.features in
+    let registry : c.in_ok-registry.registry ≡ r = c.in_ok-registry.ensures.1
+    ∙ ap (λ (features : List Text). record { rows = c.in_ok-rows.field-0.rows.items; features = features }) c.as_slice.ensures.value in
+    c.in_ok-driven.ensures.unready
+    ∙ ap₂ (λ (r : Registered) (steps : List Step). unready_of (watched says r) (reverse steps)) registry c.as_slice-2.ensures.value
+    ∙ ap₂ (λ (r : Registered) (steps : List Step). unready_of (watched says r) (reverse steps))
+    (sym (ap (λ (bytes : Text). registered_in (lines_of bytes)) (sym text) ∙ c.in_ok-rows.ensures.answer.registered))
+    (sym (ap (λ (bytes : Text). steps_in (lines_of bytes)) (sym text) ∙ c.in_ok-rows.ensures.answer.steps))
 
 pub returns-clause-heard : goal.returns-clause-heard
 returns-clause-heard g c =

@@ -1,18 +1,18 @@
 use Rattle.std.proofs.Common.{◌∙◌, ◌++◌, List, [], Bool, ap, refl, reverse, subst, sym}
-use Rattle.std.specs.Prelude.{Result, codes}
+use Rattle.std.specs.Prelude.{Result, codes, is_none}
 use Rattle.std.proofs.lemmas.Result.{err_from_is_err_and}
 use Rattle.rl_names.specs.declared.name.Key.{Key}
 use Rattle.rl_names.specs.declared.text.NoMemory.{NoMemory}
 use Rattle.rl_view_spec.specs.Closure.{Text}
 use Rattle.rl_script_spec.specs.Output.{events_of, line, summary_of}
-use Rattle.rl_script_spec.proofs.OrderLemmas.{steps_lawful}
+use Rattle.rl_script_spec.proofs.UnreadyLemmas.{told_where_not_served}
 use Rattle.rl_view.specs.Heard.{executions, watched}
 use Rattle.rl_drive.specs.Hearing.{ArePlayed}
 use Rattle.rl_drive.specs.Player.{Plays, StopsStep}
 use Rattle.rl_drive.specs.declared.steps.Driven.{Driven}
 use Rattle.rl_drive.proofs.HearingLemmas.{heard_nothing, same_says}
 use Rattle.rl_drive.proofs.PlayingLemmas.{Playing, playing_all, playing_begin, playing_ends, playing_next, playing_stops}
-use Rattle.rl_drive.proofs.SummingLemmas.{all_served}
+use Rattle.rl_drive.proofs.UnreadyLemmas.{none_told}
 use Rattle.rl_drive.proofs.steps.play.Goals as goal
 
 pub returns-in_err-player-clause-heard : goal.returns-in_err-player-clause-heard
@@ -77,15 +77,37 @@ returns-clause-text g c =
     ∙ ap (λ (replies : Text). replies ++ line (codes "summary")
     ++ summary_of 0 v (events_of c.args.registry (reverse c.args.steps.now))) done.1
 
+pub unready-requires-clause-played : goal.unready-requires-clause-played
+unready-requires-clause-played g c =
+    let done = playing_all (g.O.Hears.says c.args.observers.now) c.args.registry c.args.steps.now (g.O.Hears.told c.args.observers.now)
+    c.loop-step.step-index c.loop-step.player c.loop-step.text.items (g.O.Hears.told c.loop-step.observers) c.loop-step-test.false
+    c.loop-step.invariant.playing in
+    (watched (g.O.Hears.says c.args.observers.now) c.args.registry, done.0)
+
+pub returns-in_err-unready-clause-heard : goal.returns-in_err-unready-clause-heard
+returns-in_err-unready-clause-heard g c =
+    let p = err_from_is_err_and c.from_residual-in_err-unready.result c.from_residual-in_err-unready.ensures.1 in
+    let all : List _ = executions (watched (g.O.Hears.says c.args.observers.now) c.args.registry) (events_of c.args.registry (reverse c.args.steps.now)) in
+    subst (λ (r : Result Driven NoMemory). ArePlayed r all (g.O.Hears.told c.args.observers.now) (g.O.Hears.told c.loop-step.observers)) (sym p.1)
+    (playing_ends (g.O.Hears.says c.args.observers.now) c.args.registry c.args.steps.now (g.O.Hears.told c.args.observers.now)
+    c.loop-step.step-index c.loop-step.player c.loop-step.text.items (g.O.Hears.told c.loop-step.observers) c.loop-step-test.false
+    c.loop-step.invariant.playing)
+
 pub returns-clause-ready : goal.returns-clause-ready
 returns-clause-ready g c =
     let v = watched (g.O.Hears.says c.args.observers.now) c.args.registry in
     let done = playing_all (g.O.Hears.says c.args.observers.now) c.args.registry c.args.steps.now (g.O.Hears.told c.args.observers.now)
     c.loop-step.step-index c.loop-step.player c.loop-step.text.items (g.O.Hears.told c.loop-step.observers) c.loop-step-test.false
     c.loop-step.invariant.playing in
-    c.all_served-ready.ensures
-    ∙ all_served v (events_of c.args.registry (reverse c.args.steps.now)) c.loop-step.player c.args.steps.now
-    (steps_lawful v (reverse c.args.steps.now)) done.0
+    none_told c.in_ok-unready.unready c.is_none.result c.is_none.ensures ∙ ap is_none (c.in_ok-unready.ensures v done.0) ∙ told_where_not_served v (reverse c.args.steps.now)
+
+pub returns-clause-unready : goal.returns-clause-unready
+returns-clause-unready g c =
+    let v = watched (g.O.Hears.says c.args.observers.now) c.args.registry in
+    let done = playing_all (g.O.Hears.says c.args.observers.now) c.args.registry c.args.steps.now (g.O.Hears.told c.args.observers.now)
+    c.loop-step.step-index c.loop-step.player c.loop-step.text.items (g.O.Hears.told c.loop-step.observers) c.loop-step-test.false
+    c.loop-step.invariant.playing in
+    c.in_ok-unready.ensures v done.0
 
 pub returns-clause-heard : goal.returns-clause-heard
 returns-clause-heard g c =
