@@ -5,6 +5,7 @@ use rl_base::{DirTree, Observer, Reason, Recorder, StdSink};
 use rl_cli::{Report, Status, run};
 use rl_defs::CatalogError;
 use rl_names::{Name, NameError};
+use rl_script_spec::Unready;
 use std::alloc::{AllocError, Global};
 use std::env;
 use std::io::ErrorKind;
@@ -35,6 +36,7 @@ struct End {
     status: Status,
     word: u32,
     breach: Option<CatalogError>,
+    unready: Option<Unready>,
     reason: Option<Reason>,
 }
 
@@ -45,6 +47,7 @@ impl End {
             status,
             word: 0,
             breach: None,
+            unready: None,
             reason: None,
         }
     }
@@ -81,6 +84,7 @@ fn answer(rt: &HostRuntime, words: &[&str], thrown: Vec<Name>) -> Result<End, Al
                 status: ended.status,
                 word: ended.word,
                 breach: ended.breach,
+                unready: ended.unready,
                 reason,
             })
         }
@@ -121,6 +125,7 @@ fn ended(rt: &HostRuntime, words: &[&str], end: End) -> ExitCode {
         status,
         word,
         breach,
+        unready,
         reason,
     } = end;
     if status != Status::Done {
@@ -129,6 +134,7 @@ fn ended(rt: &HostRuntime, words: &[&str], end: End) -> ExitCode {
             status,
             word,
             breach,
+            unready,
             reason,
         };
         // Where standard error takes nothing either, the code still tells.

@@ -14,12 +14,14 @@ use Rattle.rl_names.specs.declared.name.Key.{Key}
 use Rattle.rl_view_spec.specs.Closure.{Text}
 use Rattle.rl_view_spec.specs.View.{Throws}
 use Rattle.rl_script_spec.specs.Script as script
+use Rattle.rl_script_spec.specs.Unready.{unready_in}
+use Rattle.rl_script_spec.specs.declared.Unready.{Unready}
 use Rattle.rl_script_spec.proofs.PrintedLemmas.{printed_holds, printed_text}
 use Rattle.rl_view.specs.Heard.{after_hearing}
 use Rattle.rl_cli.specs.Answers.{Answers, AnswersCommand, AnswersVerdict, AreHeard, Heard, IsLongFile, IsPrinted, IsUnreadFile, HoldsOfScript, PrintsSoundly}
 use Rattle.rl_cli.specs.Answers.{Writes, Completes}
 use Rattle.rl_cli.specs.Answers.{file_end, first_end, bytes_at, command_end, expected_end}
-use Rattle.rl_cli.specs.Ending.{Ending, plain, about, long, of_fault, of_verdict, written}
+use Rattle.rl_cli.specs.Ending.{Ending, plain, about, long, of_fault, of_verdict, written, written_by}
 use Rattle.rl_cli.specs.Files.{AreFiles, IsFile, IsTooLong, IsUnread, Reaches}
 use Rattle.rl_cli.specs.Verdict.{Verdict, Fault, Breaks, Exceeds, executed_by, file_at, of_script, verdict_on}
 use Rattle.rl_cli.specs.Words.{Command, Drive, command_of, files_of, word_at, names_at}
@@ -40,9 +42,9 @@ IsWorked statuses.ReadFault = ⊥
 IsWorked (statuses.TooLarge what count) = what ≢ counted.FileBytes
 IsWorked other = Unit {0}
 
-written_worked : (ready : Bool) → IsWorked (written ready).status
-written_worked true = tt
-written_worked false = tt
+written_worked : (ready : Bool) (word : ℕ) (unready : Option Unready) → IsWorked (written_by ready word unready).status
+written_worked true word unready = tt
+written_worked false word unready = tt
 
 fault_worked : (fault : Fault) → IsOfWork (Err fault) → IsWorked (of_fault fault).status
 fault_worked (Breaks word line why breach) h = tt
@@ -53,7 +55,7 @@ along P one other e h = subst (λ (end : Ending). P end.status) (sym e) h
 
 verdict_worked : (v : Verdict) (end : Ending) (old new : Option Text) → IsOfWork v → AnswersVerdict v end old new → IsWorked end.status
 verdict_worked (Ok printed) end old new h a = elim a [
-  | inl whole ↦ along IsWorked end (written printed.ready) whole.0 (written_worked printed.ready)
+  | inl whole ↦ along IsWorked end (written printed) whole.0 (written_worked printed.ready printed.word printed.unready)
   | inr
       front ↦ elim front.0 [
         | inl fault ↦ along IsWorked end (plain statuses.WriteFault) fault tt
@@ -131,8 +133,8 @@ record IsWritten (v : Verdict) (s : Status) (old new : Option Text) : Type 0 whe
 printed_writes : (printed : Printed) (end : Ending) (old new : Option Text) → AnswersVerdict (Ok printed) end old new → IsPrinted end.status →
     Writes end.status printed.text old new
 printed_writes printed end old new a h = elim a [
-  | inl whole ↦ along (λ s. Writes s printed.text old new) end (written printed.ready) whole.0
-      (ready_writes printed.ready whole.1)
+  | inl whole ↦ along (λ s. Writes s printed.text old new) end (written printed) whole.0
+      (ready_writes printed.ready printed.word printed.unready whole.1)
   | inr front ↦ elim front.0 [
     | inl fault ↦ along (λ s. Writes s printed.text old new) end (plain statuses.WriteFault) fault front.1
     | inr memory ↦ absurd
@@ -140,9 +142,10 @@ printed_writes printed end old new a h = elim a [
   ]
 ]
   where
-    ready_writes : (ready : Bool) → new ≡ appended old printed.text → Writes (written ready).status printed.text old new
-    ready_writes true e = e
-    ready_writes false e = e
+    ready_writes : (ready : Bool) (word : ℕ) (unready : Option Unready) → new ≡ appended old printed.text
+        → Writes (written_by ready word unready).status printed.text old new
+    ready_writes true word unready e = e
+    ready_writes false word unready e = e
 
 fault_unprinted : (fault : Fault) → IsPrinted (of_fault fault).status → ⊥
 fault_unprinted (Breaks word line why breach) h = h
@@ -158,11 +161,12 @@ written_verdict (Err fault) end old new a h = elim a.0 [
 ]
 
 -- the output of a script
-script_prints : (place : ℕ) (v : script.Verdict) (printed : Printed) → of_script place v ≡ Ok printed → v ≡ script.Prints printed.text printed.ready
-script_prints place (script.Prints text ready) printed e = let p : record { text = text; ready = ready }
+script_prints : (place : ℕ) (unready : Option Unready) (v : script.Verdict) (printed : Printed) → of_script place unready v ≡ Ok printed →
+    v ≡ script.Prints printed.text printed.ready
+script_prints place unready (script.Prints text ready) printed e = let p : record { text = text; ready = ready; word = place; unready = unready }
     ≡ printed = cc in ap (λ (q : Printed). script.Prints q.text q.ready) p
-script_prints place (script.BadLine line why) printed e = cc
-script_prints place (script.TooMany what count) printed e = cc
+script_prints place unready (script.BadLine line why) printed e = cc
+script_prints place unready (script.TooMany what count) printed e = cc
 
 one_file : (told : Option Files) (name : Text) (files : List Text) → AreFiles told (name ∷ []) files → IsFile told name (file_at files 0)
 one_file told name (bytes ∷ []) are = are.0
@@ -185,7 +189,7 @@ module _ (throws : Throws) (told : Option Files) (words : List Text) (end : Endi
       → heard' ≡ after_hearing (executed_by throws Drive files) heard → PrintsSoundly throws told words end.status old new heard heard'
   script_written files are w h =
       let bytes = file_at files 0 in
-      let prints = script_prints 1 (script.verdict_of throws bytes) w.printed w.is in
+      let prints = script_prints 1 (unready_in throws bytes) (script.verdict_of throws bytes) w.printed w.is in
       record {
         bytes = bytes;
         file = one_file told (word_at words 1) files are;

@@ -1,14 +1,15 @@
 -- What was heard of, by how a call ends.
-use Rattle.std.proofs.Common.{◌≡◌, List, [], Bool, true, false, Option, inl, inr, refl, sym, subst, append-nil}
+use Rattle.std.proofs.Common.{◌≡◌, ℕ, List, [], Bool, true, false, Option, inl, inr, refl, sym, subst, append-nil}
 use Rattle.std.specs.Prelude.{Result, Ok, Err}
 use Rattle.rl_names.specs.declared.name.Key.{Key}
 use Rattle.rl_view_spec.specs.Closure.{Text}
 use Rattle.rl_view_spec.specs.View.{Throws}
+use Rattle.rl_script_spec.specs.declared.Unready.{Unready}
 use Rattle.rl_view.specs.Heard.{HearsFront, after_hearing}
 use Rattle.rl_drive.proofs.HearingLemmas.{heard_nothing}
 use Rattle.rl_base.specs.Files.{Files}
 use Rattle.rl_cli.specs.Answers.{Answers, AnswersVerdict, AreHeard, Heard, IsSilent}
-use Rattle.rl_cli.specs.Ending.{Ending, of_error, written}
+use Rattle.rl_cli.specs.Ending.{Ending, of_error, written_by}
 use Rattle.rl_cli.specs.Verdict.{IsHeard, executed_by}
 use Rattle.rl_cli.specs.declared.status.Status.{Status}
 use Rattle.rl_cli.specs.declared.status.Status.TheVariants as statuses
@@ -24,7 +25,8 @@ whole_front executed heard heard' h = (executed, [], sym (append-nil executed), 
 pub written_heard : (printed : Printed) (end : Ending) (old new : Option Text) (executed : List (Key × Text)) (heard heard' : Heard) →
     AnswersVerdict (Ok printed) end old new → heard' ≡ after_hearing executed heard → AreHeard end.status executed heard heard'
 written_heard printed end old new executed heard heard' a h = elim a [
-  | inl whole ↦ subst (λ (e : Ending). AreHeard e.status executed heard heard') (sym whole.0) (ready_heard printed.ready)
+  | inl whole ↦ subst (λ (e : Ending). AreHeard e.status executed heard heard') (sym whole.0)
+      (ready_heard printed.ready printed.word printed.unready)
   | inr
       front ↦ elim front.0 [
         | inl fault ↦ subst (λ (e : Ending). AreHeard e.status executed heard heard') (sym fault) h
@@ -32,9 +34,9 @@ written_heard printed end old new executed heard heard' a h = elim a [
       ]
 ]
   where
-    ready_heard : (ready : Bool) → AreHeard (written ready).status executed heard heard'
-    ready_heard true = h
-    ready_heard false = h
+    ready_heard : (ready : Bool) (word : ℕ) (unready : Option Unready) → AreHeard (written_by ready word unready).status executed heard heard'
+    ready_heard true word unready = h
+    ready_heard false word unready = h
 
 -- the work came to nothing
 pub error_heard : (error : WorkError) (end : Ending) (executed : List (Key × Text)) (heard heard' : Heard) → end ≡ of_error error →

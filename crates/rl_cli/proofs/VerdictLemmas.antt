@@ -9,6 +9,8 @@ use Rattle.rl_view_spec.specs.Breach as breach
 use Rattle.rl_view_spec.specs.Closure.{Text, least}
 use Rattle.rl_view_spec.specs.View.{Throws}
 use Rattle.rl_script_spec.specs.Script as script
+use Rattle.rl_script_spec.specs.Unready.{unready_in}
+use Rattle.rl_script_spec.specs.declared.Unready.{Unready}
 use Rattle.rl_script_spec.specs.Script.{BadLine, TooMany, Fault, Bad, TooManySteps, verdict_of, fault_verdict, breach_verdict, first_fault, lines_of, rows_in}
 use Rattle.rl_script_spec.specs.Script.{printed}
 use Rattle.rl_defs.specs.Breach.{reading}
@@ -62,10 +64,10 @@ abbrev pub IsOfWork : Verdict → Type 0
 IsOfWork (Err (Exceeds word what count)) = what ≢ counted.FileBytes
 IsOfWork other = Unit {0}
 
-script_of_work : (place : ℕ) (v : script.Verdict) → IsOfContent v → IsOfWork (of_script place v)
-script_of_work place (script.Prints text ready) h = tt
-script_of_work place (BadLine line why) h = tt
-script_of_work place (TooMany what count) h = h
+script_of_work : (place : ℕ) (unready : Option Unready) (v : script.Verdict) → IsOfContent v → IsOfWork (of_script place unready v)
+script_of_work place unready (script.Prints text ready) h = tt
+script_of_work place unready (BadLine line why) h = tt
+script_of_work place unready (TooMany what count) h = h
 
 breach_of_work : (place : ℕ) (refusal : definitions.Refusal) → IsOfDefinitions refusal → IsOfWork (Err (of_breach place refusal))
 breach_of_work place (definitions.TooMany what count) h = h
@@ -88,7 +90,7 @@ reading_of_work asked (Ok catalogue) h = answer_of_work 4 (answer_of (sight cata
 reading_of_work asked (Err refusal) h = breach_of_work 1 refusal h
 
 pub is_of_work : (throws : Throws) (command : Command) (files : List Text) → IsOfWork (verdict_on throws command files)
-is_of_work throws Drive files = script_of_work 1 (verdict_of throws (file_at files 0)) (is_of_content throws (file_at files 0))
+is_of_work throws Drive files = script_of_work 1 (unready_in throws (file_at files 0)) (verdict_of throws (file_at files 0)) (is_of_content throws (file_at files 0))
 is_of_work throws (Load asked) files = reading_of_work asked (reading (file_at files 0)) (reading_is_of_definitions (file_at files 0))
 
 -- ---- a refusal that is told
@@ -97,10 +99,19 @@ same_fault : (one other : Refused) → Some one ≡ Some other → one ≡ other
 same_fault one other e = cc
 
 -- the verdict of a script, told at the place of its word
-pub script_refused : (place : ℕ) (v told : script.Verdict) (fault : Refused) → v ≡ told → of_script place told ≡ Err fault
-    → (refusal : Refused) → Some fault ≡ Some refusal → of_script place v ≡ Err refusal
-script_refused place v told fault e f refusal is =
-    subst (λ (x : Refused). of_script place v ≡ Err x) (same_fault fault refusal is) (ap (of_script place) e ∙ f)
+pub script_refused : (place : ℕ) (unready : Option Unready) (v told : script.Verdict) (fault : Refused) → v ≡ told →
+    of_script place unready told ≡ Err fault
+    → (refusal : Refused) → Some fault ≡ Some refusal → of_script place unready v ≡ Err refusal
+script_refused place unready v told fault e f refusal is =
+    subst (λ (x : Refused). of_script place unready v ≡ Err x) (same_fault fault refusal is) (ap (of_script place unready) e ∙ f)
+
+-- what it prints, and why not everything was served
+pub script_printed : (place : ℕ) (unready told : Option Unready) (v : script.Verdict) (text shown : Text) (ready : Bool) →
+    v ≡ script.Prints text ready → told ≡ unready → shown ≡ text
+    → of_script place unready v ≡ Ok record { text = shown; ready = ready; word = place; unready = told }
+script_printed place unready told v text shown ready e same whole =
+    ap (of_script place unready) e ∙ ap (λ (u : Option Unready). of_script place u (script.Prints text ready)) (sym same)
+    ∙ ap (λ (t : Text). of_script place told (script.Prints t ready)) (sym whole)
 
 -- the refusal of a query, told as a fault of its word
 pub query_refused :

@@ -29,7 +29,7 @@ use Rattle.rl_cli.specs.declared.status.Status.TheVariants as statuses
 -- told, or memory ran out, and nothing is written.
 abbrev pub AnswersVerdict : Verdict → Ending → Option Text → Option Text → Type 0
 AnswersVerdict (Ok printed) end old new =
-    ((end ≡ written printed.ready) × (new ≡ appended old printed.text))
+    ((end ≡ written printed) × (new ≡ appended old printed.text))
     ⊎ (((end ≡ plain statuses.WriteFault) ⊎ (end ≡ plain statuses.NoMemory)) × AppendsFront old printed.text new)
 AnswersVerdict (Err fault) end old new = ((end ≡ of_fault fault) ⊎ (end ≡ plain statuses.NoMemory)) × (new ≡ old)
 

@@ -1,5 +1,5 @@
 -- The line that tells a person how a call ended.
-use Rattle.std.specs.Prelude.{ℕ, ◌++◌, ◌==◌, if◌then◌else◌, List, Option, Some, None, codes, decimal}
+use Rattle.std.specs.Prelude.{ℕ, ◌++◌, ◌==◌, if◌then◌else◌, List, Option, Some, None, bytes_eq, codes, decimal}
 use Rattle.std.specs.Option.{option_map_or}
 use Rattle.rl_names.specs.Limits.{limit_of, unit_of}
 use Rattle.rl_names.specs.Rules.{rule_of, sentence_of}
@@ -7,6 +7,14 @@ use Rattle.rl_names.specs.declared.counted.Counted.{Counted}
 use Rattle.rl_base.specs.Reason.{words_of}
 use Rattle.rl_base.specs.declared.fault.Reason.{Reason}
 use Rattle.rl_view_spec.specs.Closure.{Text}
+use Rattle.rl_view_spec.specs.declared.Phase.{Phase}
+use Rattle.rl_script_spec.specs.Output.{state_word}
+use Rattle.rl_script_spec.specs.declared.Blame.{Blame}
+use Rattle.rl_script_spec.specs.declared.Blame.TheVariants as blames
+use Rattle.rl_script_spec.specs.declared.Unready.{Unready}
+use Rattle.rl_script_spec.specs.declared.Unready.TheVariants.{Refused, NotReady}
+use Rattle.rl_script_spec.specs.declared.Unresolved.{Unresolved}
+use Rattle.rl_script_spec.specs.declared.Unresolved.TheVariants as unresolved
 use Rattle.rl_defs.specs.declared.error.CatalogError.{CatalogError}
 use Rattle.rl_defs.specs.declared.error.CatalogError.TheVariants as breaches
 use Rattle.rl_defs.specs.declared.error.FieldKind.{FieldKind}
@@ -79,12 +87,51 @@ unread_line file reason = (spelt file ++ codes ": could not be read") ++ reason_
 abbrev pub unwritten_line : Option Reason → Text
 unwritten_line reason = codes "the output could not be written" ++ reason_text reason
 
-abbrev pub told_line : List Text → Status → ℕ → Option CatalogError → Option Reason → Text
-told_line words statuses.Done word breach reason = codes "done"
-told_line words statuses.BadWords word breach reason = codes "no command has these words; `loader --help` lists them"
-told_line words (statuses.BadInput place line why) word breach reason = input_line (word_at words place) breach line why
-told_line words (statuses.TooLarge what count) word breach reason = count_line (word_at words word) what count
-told_line words statuses.NotReady word breach reason = codes "a request was refused, or a requested module is not ready"
-told_line words statuses.ReadFault word breach reason = unread_line (word_at words word) reason
-told_line words statuses.WriteFault word breach reason = unwritten_line reason
-told_line words statuses.NoMemory word breach reason = codes "out of memory"
+-- ---- why not everything was served
+
+abbrev pub unresolved_words : Unresolved → Text
+unresolved_words unresolved.Unknown = codes "is unknown"
+unresolved_words unresolved.Cycle = codes "depends on itself"
+
+abbrev pub blame_words : Blame → Text
+blame_words blames.Unanswered = codes "was not answered"
+blame_words blames.Missing = codes "is missing"
+blame_words blames.Error = codes "is in error"
+blame_words blames.Threw = codes "threw"
+
+abbrev pub cause_text : Text → Text → Text
+cause_text name fault = codes " needs module " ++ spelt name ++ codes ", which " ++ fault
+
+-- the step that was refused, or dropped a name, and the name to blame
+abbrev pub refused_line : Text → ℕ → Text → Unresolved → Text
+refused_line file step name why = (spelt file ++ (codes ": step " ++ decimal step)) ++ cause_text name (unresolved_words why)
+
+abbrev pub needed_text : Text → Text → Text
+needed_text member done = spelt member ++ codes ", which it needs, " ++ done
+
+-- a module itself is to blame, or one that it needs
+abbrev pub blamed_text : Text → Text → Blame → Text
+blamed_text name member blame = if bytes_eq member name then codes "it " ++ blame_words blame else needed_text member (blame_words blame)
+
+abbrev pub state_text : Text → Text → Text → Text
+state_text file name state = (spelt file ++ (codes ": module " ++ spelt name)) ++ (codes " is not ready (" ++ (state ++ codes "): "))
+
+abbrev pub held_line : Text → Text → Phase → Text → Blame → Text
+held_line file name state member blame = state_text file name (state_word state) ++ blamed_text name member blame
+
+abbrev pub unready_line : Text → Option Unready → Text
+unready_line file None = codes "a request was refused, or a requested module is not ready"
+unready_line file (Some (Refused step name why)) = refused_line file step name why
+unready_line file (Some (NotReady name state member blame)) = held_line file name state member blame
+
+-- ---- the line
+
+abbrev pub told_line : List Text → Status → ℕ → Option CatalogError → Option Unready → Option Reason → Text
+told_line words statuses.Done word breach unready reason = codes "done"
+told_line words statuses.BadWords word breach unready reason = codes "no command has these words; `loader --help` lists them"
+told_line words (statuses.BadInput place line why) word breach unready reason = input_line (word_at words place) breach line why
+told_line words (statuses.TooLarge what count) word breach unready reason = count_line (word_at words word) what count
+told_line words statuses.NotReady word breach unready reason = unready_line (word_at words word) unready
+told_line words statuses.ReadFault word breach unready reason = unread_line (word_at words word) reason
+told_line words statuses.WriteFault word breach unready reason = unwritten_line reason
+told_line words statuses.NoMemory word breach unready reason = codes "out of memory"

@@ -7,6 +7,8 @@ use Rattle.rl_names.specs.declared.name.Key.{Key}
 use Rattle.rl_names.specs.Rules.{number_of}
 use Rattle.rl_view_spec.specs.Closure.{Text}
 use Rattle.rl_script_spec.specs.Script as script
+use Rattle.rl_script_spec.specs.Unready.{unready_in}
+use Rattle.rl_script_spec.specs.declared.Unready.{Unready}
 use Rattle.rl_view_spec.specs.View.{Throws}
 use Rattle.rl_view.specs.Heard.{HearsFront, after_hearing}
 use Rattle.rl_drive.specs.Hearing.{executions_in}
@@ -29,7 +31,7 @@ pub data Fault : Type 0 where
   Breaks : (word line why : ℕ) (breach : Option definitions.Refusal) → Fault
   Exceeds : (word : ℕ) (what : Counted) (count : ℕ) → Fault
 
--- an output, with whether every requested name is ready at the end, or a fault
+-- an output, with whether every requested name is ready at the end, and why not, or a fault
 abbrev pub Verdict : Type 0
 Verdict = Result Printed Fault
 
@@ -39,11 +41,11 @@ fault_told (errors.Breaks word line why breach) = Some (Breaks word line why (op
 fault_told (errors.Exceeds word what count) = Some (Exceeds word what count)
 fault_told errors.NoMemory = None
 
--- what a script comes to, which the word of this place names
-abbrev pub of_script : ℕ → script.Verdict → Verdict
-of_script place (script.Prints text ready) = Ok record { text = text; ready = ready }
-of_script place (script.BadLine line why) = Err (Breaks place line why None)
-of_script place (script.TooMany what count) = Err (Exceeds place what count)
+-- what a script comes to, which the word of this place names, and why not everything was served
+abbrev pub of_script : ℕ → Option Unready → script.Verdict → Verdict
+of_script place unready (script.Prints text ready) = Ok record { text = text; ready = ready; word = place; unready = unready }
+of_script place unready (script.BadLine line why) = Err (Breaks place line why None)
+of_script place unready (script.TooMany what count) = Err (Exceeds place what count)
 
 -- definitions are refused, which the word of this place names
 abbrev pub of_breach : ℕ → definitions.Refusal → Fault
@@ -56,9 +58,9 @@ of_query place (query.QueryTooLong len) = Exceeds place counted.QueryBytes len
 of_query place (query.TooManyNames count) = Exceeds place counted.Names count
 of_query place (query.AnswerTooLong len) = Exceeds place counted.AnswerBytes len
 
--- what is sent for a query is printed
+-- What is sent for a query is printed. It has no requests.
 abbrev pub of_answer : ℕ → Result Answer query.Refusal → Verdict
-of_answer place (Ok answer) = Ok record { text = answer.body; ready = true }
+of_answer place (Ok answer) = Ok record { text = answer.body; ready = true; word = 0; unready = None }
 of_answer place (Err refusal) = Err (of_query place refusal)
 
 -- Bad definitions are answered before the query is looked at. The viewer is nobody, and the wiki has no pages.
@@ -72,7 +74,7 @@ file_at files number = slice_index_or files number []
 
 -- what a command makes of the bytes of its files, where observers throw for these scripts
 abbrev pub verdict_on : Throws → Command → List Text → Verdict
-verdict_on throws Drive files = of_script 1 (script.verdict_of throws (file_at files 0))
+verdict_on throws Drive files = of_script 1 (unready_in throws (file_at files 0)) (script.verdict_of throws (file_at files 0))
 verdict_on throws (Load asked) files = of_reading asked (reading (file_at files 0))
 
 -- what it executes

@@ -39,7 +39,7 @@ pub fn run<T: Tree, O: Sink>(
     // How the call ends, what it wrote and what was heard of, by the words and the bytes of the files that they name.
     ensures bad_words { (result.status ≡ Status.BadWords) ↔ (command_of (texts words.now) ≡ None) }
     ensures answer { Answers (throws_by (λ k s. list_any (λ o. throws o k s) observers.items))
-        (T.files tree.old) (texts words.now) (ending result.status result.word result.breach) (O.written out.old) (O.written out.new)
+        (T.files tree.old) (texts words.now) (ending result.status result.word result.breach result.unready) (O.written out.old) (O.written out.new)
         (map (λ o. ran o) observers.items) (map (λ o. ran o) result.observers.items) }
     ensures too_large { (count : ℕ) → result.status ≡ Status.TooLarge Counted.FileBytes count
         → IsLongFile (T.files tree.old) (texts words.now) result.word count }
@@ -64,18 +64,20 @@ pub fn run<T: Tree, O: Sink>(
         (map (λ o. ran o) observers.items) (map (λ o. ran o) result.observers.items) }
     ensures complete { Completes (throws_by (λ k s. list_any (λ o. throws o k s) observers.items))
         (T.files tree.old) (texts words.now) (T.faults tree.old) (T.faults tree.new) (O.faults out.old) (O.faults out.new)
-        (ending result.status result.word result.breach) }
+        (ending result.status result.word result.breach result.unready) }
 {
     let mut boxes = Boxes { all: observers };
     let End {
         status,
         word,
         breach,
+        unready,
     } = end_of(alloc, words, tree, out, &mut boxes);
     Ended {
         status,
         word,
         breach,
+        unready,
         observers: boxes.all,
     }
 }
@@ -89,7 +91,7 @@ fn end_of<T: Tree, O: Sink, H: Hears>(
     observers: &mut H,
 ) -> End
     ensures answer { Answers (throws_by (H.says observers.old)) (T.files tree.old) (texts words.now)
-        (ending result.status result.word result.breach) (O.written out.old) (O.written out.new) (H.told observers.old) (H.told observers.new) }
+        (ending result.status result.word result.breach result.unready) (O.written out.old) (O.written out.new) (H.told observers.old) (H.told observers.new) }
     ensures same { (first : H) → H.same first observers.old → H.same first observers.new }
     ensures read_fault { result.status ≡ Status.ReadFault
         → IsUnreadFile (T.faults tree.old) (T.faults tree.new) (T.blamed tree.new) (T.files tree.old) (texts words.now) result.word }
@@ -123,7 +125,7 @@ fn answer<O: Sink, H: Hears>(
 ) -> End
     requires { length files.now ≡ length (files_of (meant command.now)) }
     ensures answers { AnswersVerdict (verdict_on (throws_by (H.says observers.old)) (meant command.now) files.now)
-        (ending result.status result.word result.breach) (O.written out.old) (O.written out.new) }
+        (ending result.status result.word result.breach result.unready) (O.written out.old) (O.written out.new) }
     ensures heard { AreHeard result.status (executed_by (throws_by (H.says observers.old)) (meant command.now) files.now)
         (H.told observers.old) (H.told observers.new) }
     ensures same { (first : H) → H.same first observers.old → H.same first observers.new }
@@ -131,20 +133,20 @@ fn answer<O: Sink, H: Hears>(
     ensures never_falls { O.faults out.old ≤ O.faults out.new }
 {
     match work(alloc, command, files, observers) {
-        Ok(printed) => write_output(&printed, out),
+        Ok(printed) => write_output(printed, out),
         Err(error) => End::of(error),
     }
 }
 
 /// Writes an output.
-fn write_output<O: Sink>(printed: &Printed, out: &mut O) -> End
-    ensures answers { AnswersVerdict (Ok printed.now) (ending result.status result.word result.breach) (O.written out.old) (O.written out.new) }
+fn write_output<O: Sink>(printed: Printed, out: &mut O) -> End
+    ensures answers { AnswersVerdict (Ok printed) (ending result.status result.word result.breach result.unready) (O.written out.old) (O.written out.new) }
     ensures write_fault { result.status ≡ Status.WriteFault → Rose (O.faults out.old) (O.faults out.new) }
     ensures never_falls { O.faults out.old ≤ O.faults out.new }
 {
     match write_all(out, printed.text.as_bytes()) {
         Ok(()) if printed.ready => End::plain(Status::Done),
-        Ok(()) => End::plain(Status::NotReady),
+        Ok(()) => End::unready(printed.word, printed.unready),
         Err(SinkError::Failed) => End::plain(Status::WriteFault),
         Err(SinkError::NoMemory) => End::plain(Status::NoMemory),
     }

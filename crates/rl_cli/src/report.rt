@@ -3,6 +3,7 @@ ghost use Rattle.std.specs.Prelude.{◌≡◌, Some};
 ghost use Rattle.std.specs.Fmt.{DisplaysOnOk};
 ghost use Rattle.rl_cli.specs.Spelt.{spelt};
 ghost use Rattle.rl_cli.specs.Told.{breach_line, count_line, fault_text, field_line, had_line, input_line, limit_line, named_line, place_text};
+ghost use Rattle.rl_cli.specs.Told.{blame_words, blamed_text, cause_text, held_line, needed_text, refused_line, state_text, unready_line, unresolved_words};
 ghost use Rattle.rl_cli.specs.Told.{reason_text, rule_line, rule_text, unread_line, unwritten_line};
 
 use crate::spelt::Spelt;
@@ -10,7 +11,10 @@ use crate::status::Status;
 use crate::words::word_at;
 use rl_base::Reason;
 use rl_defs::{CatalogError, FieldKind};
+use rl_drive::state_word;
 use rl_names::{Counted, Rule, Text};
+use rl_script_spec::{Blame, Unready, Unresolved};
+use rl_view_spec::Phase;
 use std::fmt;
 
 /// How a call ended as a person reads it, in one line: what is wrong, and where. Words and names are
@@ -24,6 +28,8 @@ pub struct Report<'a> {
     pub word: u32,
     /// What breaks a rule of definitions, where definitions are refused.
     pub breach: Option<CatalogError>,
+    /// Why not everything that was requested was served.
+    pub unready: Option<Unready>,
     /// Why the system refused, where reading or writing failed and it says so.
     pub reason: Option<Reason>,
 }
@@ -274,12 +280,137 @@ fn write_name<W: fmt::Write>(f: &mut fmt::Formatter<W>, name: &str) -> fmt::Resu
     write!(f, "{name}")
 }
 
+/// Why a name does not resolve.
+fn unresolved_words(why: Unresolved) -> &'static str
+    ensures { result.now ≡ unresolved_words why }
+{
+    match why {
+        Unresolved::Unknown => "is unknown",
+        Unresolved::Cycle => "depends on itself",
+    }
+}
+
+/// What a module that is to blame has done.
+fn blame_words(blame: Blame) -> &'static str
+    ensures { result.now ≡ blame_words blame }
+{
+    match blame {
+        Blame::Unanswered => "was not answered",
+        Blame::Missing => "is missing",
+        Blame::Error => "is in error",
+        Blame::Threw => "threw",
+    }
+}
+
+/// Writes what a step needs, and what is wrong with it.
+fn write_cause<W: fmt::Write>(f: &mut fmt::Formatter<W>, name: &str, fault: &str) -> fmt::Result
+    ensures { DisplaysOnOk W.write_str_gives f.old result (Some (cause_text name.now fault.now)) f.new }
+{
+    let name = Spelt(name);
+    write!(f, " needs module {name}, which {fault}")
+}
+
+/// Writes which step was refused, or dropped a name, and the name to blame.
+fn write_refused<W: fmt::Write>(
+    f: &mut fmt::Formatter<W>,
+    file: &str,
+    step: u64,
+    name: &str,
+    why: Unresolved,
+) -> fmt::Result
+    ensures { DisplaysOnOk W.write_str_gives f.old result (Some (refused_line file.now step name.now why)) f.new }
+{
+    let fault = unresolved_words(why);
+    let file = Spelt(file);
+    write!(f, "{file}: step {step}")?;
+    write_cause(f, name, fault)
+}
+
+/// Writes what a module has done that another needs.
+fn write_needed<W: fmt::Write>(f: &mut fmt::Formatter<W>, member: &str, done: &str) -> fmt::Result
+    ensures { DisplaysOnOk W.write_str_gives f.old result (Some (needed_text member.now done.now)) f.new }
+{
+    let member = Spelt(member);
+    write!(f, "{member}, which it needs, {done}")
+}
+
+/// Writes what a module, or one that it needs, has done.
+fn write_blamed<W: fmt::Write>(
+    f: &mut fmt::Formatter<W>,
+    name: &str,
+    member: &str,
+    blame: Blame,
+) -> fmt::Result
+    ensures { DisplaysOnOk W.write_str_gives f.old result (Some (blamed_text name.now member.now blame)) f.new }
+{
+    let done = blame_words(blame);
+    if member == name {
+        write!(f, "it {done}")
+    } else {
+        write_needed(f, member, done)
+    }
+}
+
+/// Writes which module is not ready.
+fn write_state<W: fmt::Write>(
+    f: &mut fmt::Formatter<W>,
+    file: &str,
+    name: &str,
+    state: &str,
+) -> fmt::Result
+    ensures { DisplaysOnOk W.write_str_gives f.old result (Some (state_text file.now name.now state.now)) f.new }
+{
+    let (file, name) = (Spelt(file), Spelt(name));
+    write!(f, "{file}: module {name}")?;
+    write!(f, " is not ready ({state}): ")
+}
+
+/// Writes which module is not ready, and what is to blame.
+fn write_held<W: fmt::Write>(
+    f: &mut fmt::Formatter<W>,
+    file: &str,
+    name: &str,
+    state: Phase,
+    member: &str,
+    blame: Blame,
+) -> fmt::Result
+    ensures { DisplaysOnOk W.write_str_gives f.old result (Some (held_line file.now name.now state member.now blame)) f.new }
+{
+    let word = state_word(state);
+    write_state(f, file, name, word)?;
+    write_blamed(f, name, member, blame)
+}
+
+/// Writes why not everything was served that a file requests.
+fn write_unready<W: fmt::Write>(
+    f: &mut fmt::Formatter<W>,
+    file: &str,
+    unready: &Option<Unready>,
+) -> fmt::Result
+    ensures { DisplaysOnOk W.write_str_gives f.old result (Some (unready_line file.now unready.now)) f.new }
+{
+    match unready {
+        None => f.write_str("a request was refused, or a requested module is not ready"),
+        Some(Unready::Refused { step, name, why }) => {
+            write_refused(f, file, *step, name.as_str(), *why)
+        }
+        Some(
+            Unready::NotReady {
+                name,
+                state,
+                member,
+                blame,
+            },
+        ) => write_held(f, file, name.as_str(), *state, member.as_str(), *blame),
+    }
+}
+
 impl<'a> fmt::Display for Report<'a> {
     ghost use Rattle.std.specs.Prelude.{Some};
     ghost use Rattle.rl_cli.specs.Told.{told_line};
     ghost use Rattle.rl_cli.specs.Words.{texts};
 
-    ghost output = { λ r. Some (told_line (texts r.words.now) r.status r.word r.breach r.reason) };
+    ghost output = { λ r. Some (told_line (texts r.words.now) r.status r.word r.breach r.unready r.reason) };
 
     fn fmt<W: fmt::Write>(&self, f: &mut fmt::Formatter<W>) -> fmt::Result {
         match self.status {
@@ -293,9 +424,7 @@ impl<'a> fmt::Display for Report<'a> {
             Status::TooLarge { what, count } => {
                 write_count(f, word_at(self.words, self.word), what, count)
             }
-            Status::NotReady => {
-                f.write_str("a request was refused, or a requested module is not ready")
-            }
+            Status::NotReady => write_unready(f, word_at(self.words, self.word), &self.unready),
             Status::ReadFault => write_unread(f, word_at(self.words, self.word), self.reason),
             Status::WriteFault => write_unwritten(f, self.reason),
             Status::NoMemory => f.write_str("out of memory"),

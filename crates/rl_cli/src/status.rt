@@ -5,6 +5,7 @@ ghost use Rattle.rl_cli.specs.Code.{code_of};
 use rl_base::Observer;
 use rl_defs::CatalogError;
 use rl_names::Counted;
+use rl_script_spec::Unready;
 
 /// How a call ended.
 #[derive(Clone, Copy, Debug, PartialEq, Eq)]
@@ -34,10 +35,13 @@ pub enum Status {
 pub struct Ended {
     pub status: Status,
     /// The place of the word that the status is about: a file that breaks a rule, is too long, holds too
-    /// much or was not read, or a query that is refused. 0 where it is about none.
+    /// much or was not read, or whose requests were not all served, or a query that is refused. 0 where it is about none.
     pub word: u32,
     /// Where definitions are refused: the rule that they break, with the module and the field.
     pub breach: Option<CatalogError>,
+    /// Where the status is `NotReady`: the first request that was refused, or else the first requested module that is not
+    /// ready, with what is to blame.
+    pub unready: Option<Unready>,
     pub observers: Vec<Box<dyn Observer + Send>>,
 }
 

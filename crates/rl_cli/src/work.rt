@@ -2,6 +2,7 @@
 ghost use Rattle.std.specs.Prelude.{◌≡◌, ◌<◌, [], length, option_map};
 ghost use Rattle.rl_names.specs.Meant.{Gives};
 ghost use Rattle.rl_script_spec.specs.Script.{verdict_of};
+ghost use Rattle.rl_script_spec.specs.Unready.{unready_in};
 ghost use Rattle.rl_view.specs.Heard.{throws_by};
 ghost use Rattle.rl_drive.specs.Hearing.{executions_in};
 ghost use Rattle.rl_defs.specs.Breach.{reading};
@@ -20,6 +21,7 @@ use rl_drive::{DriveError, drive};
 use rl_loadphp::{Answer, AnswerError, answer};
 use rl_names::{Blob, Counted};
 use rl_pages::{Pages, Viewer};
+use rl_script_spec::Unready;
 use std::alloc::Global;
 
 /// What a command prints.
@@ -28,6 +30,10 @@ pub struct Printed {
     pub text: Blob,
     /// Whether every requested name is ready at the end, where the command has requests.
     pub ready: bool,
+    /// The place of the word whose file has the requests; 0 where the command has none.
+    pub word: u32,
+    /// Why not everything that was requested was served.
+    pub unready: Option<Unready>,
 }
 
 /// Why a command prints nothing.
@@ -84,7 +90,8 @@ fn play_script<H: Hears>(
     word: u32,
     observers: &mut H,
 ) -> Result<Printed, WorkError>
-    ensures gives { Gives fault_told result (of_script word (verdict_of (throws_by (H.says observers.old)) bytes.now)) }
+    ensures gives { Gives fault_told result (of_script word (unready_in (throws_by (H.says observers.old)) bytes.now)
+        (verdict_of (throws_by (H.says observers.old)) bytes.now)) }
     ensures heard { IsHeard result (executions_in (throws_by (H.says observers.old)) bytes.now) (H.told observers.old) (H.told observers.new) }
     ensures same { (first : H) → H.same first observers.old → H.same first observers.new }
 {
@@ -92,6 +99,8 @@ fn play_script<H: Hears>(
         Ok(driven) => Ok(Printed {
             text: Blob::from_vec(driven.text),
             ready: driven.ready,
+            word,
+            unready: driven.unready,
         }),
         Err(DriveError::BadInput { line, why }) => Err(WorkError::Breaks {
             word,
@@ -159,6 +168,8 @@ fn load(alloc: Global, definitions: &[u8], query: &str) -> Result<Printed, WorkE
         Ok(answer) => Ok(Printed {
             text: Blob::from_vec(answer.body.into_string().into_bytes()),
             ready: true,
+            word: 0,
+            unready: None,
         }),
         Err(error) => Err(of_query(4, error)),
     }

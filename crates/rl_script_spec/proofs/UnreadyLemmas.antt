@@ -55,7 +55,7 @@ all_both p q (x ∷ xs) = ap (λ (b : Bool). (p x && q x) && b) (all_both p q xs
     four true false false d = refl
     four false b c d = refl
 
-all_alike : {X : Type 0} (p q : X → Bool) (xs : List X) → ((x : X) → p x ≡ q x) → list_all p xs ≡ list_all q xs
+pub all_alike : {X : Type 0} (p q : X → Bool) (xs : List X) → ((x : X) → p x ≡ q x) → list_all p xs ≡ list_all q xs
 all_alike p q [] each = refl
 all_alike p q (x ∷ xs) each = ap₂ (λ (a b : Bool). a && b) (each x) (all_alike p q xs each)
 
@@ -64,7 +64,7 @@ all_flat p f [] = refl
 all_flat p f (x ∷ xs) = list_all-append p (f x) (flat_map f xs) ∙ ap (λ (b : Bool). list_all p (f x) && b) (all_flat p f xs)
 
 -- none fails where each passes
-none_fails : {X : Type 0} (p : X → Bool) (xs : List X) → is_none (find (λ x. not (p x)) xs) ≡ list_all p xs
+pub none_fails : {X : Type 0} (p : X → Bool) (xs : List X) → is_none (find (λ x. not (p x)) xs) ≡ list_all p xs
 none_fails p [] = refl
 none_fails {X = X} p (x ∷ xs) = step (p x) (none_fails p xs)
   where
@@ -92,14 +92,14 @@ nothing_refused r = resolves_accepted r [] (λ name c. absurd (contains_none nam
 abbrev pub is_accepted : Registered → Step → Bool
 is_accepted r step = is_none (refusal_of r (names_of step))
 
-pub served_is : (v : View) (past : List Event) (step : Step) →
+served_is : (v : View) (past : List Event) (step : Step) →
     was_served v past step ≡ (is_accepted v.registered step && are_ready v past (names_of step))
 served_is v past (Using names) = refl
 served_is v past (Load names) = ap (λ (b : Bool). b && are_ready v past names) (each_resolved v.registered names)
 served_is v past (Impl key script) = ap (λ (o : Option Refusal). is_none o && true) (sym (nothing_refused v.registered))
 served_is v past (State name kind) = ap (λ (o : Option Refusal). is_none o && true) (sym (nothing_refused v.registered))
 
-none_refused : (r : Registered) (number : ℕ) (steps : List Step) → is_none (first_refused r number steps) ≡ list_all (is_accepted r) steps
+pub none_refused : (r : Registered) (number : ℕ) (steps : List Step) → is_none (first_refused r number steps) ≡ list_all (is_accepted r) steps
 none_refused r number [] = refl
 none_refused r number (step ∷ steps) = here (refusal_of r (names_of step)) (none_refused r (number + 1) steps)
   where

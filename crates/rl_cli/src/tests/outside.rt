@@ -192,6 +192,7 @@ fn line(alloc: Global, words: &[&str], tree: &mut MemTree) -> Result<String, Fai
         status: ended.status,
         word: ended.word,
         breach: ended.breach,
+        unready: ended.unready,
         reason: None,
     };
     Ok(format!(in alloc; "{report}")?)
@@ -266,11 +267,42 @@ fn what_a_person_reads(rt: HostRuntime) -> Result<(), Fail> {
         (
             ["drive", "a.script"],
             "[\"using\",[\"zz\"]]",
-            "a request was refused, or a requested module is not ready",
+            "\"a.script\": step 1 needs module \"zz\", which is unknown",
         ),
     ] {
         let mut tree = tree_of(alloc, "a.script", script.as_bytes())?;
         assert_eq!(rt; line(alloc, &words, &mut tree)?.as_str(), text);
+    }
+    Ok(())
+}
+
+/// The lines of `a`, which needs `b`.
+const TWO: &str =
+    "[\"row\",\"a\",\"00001\",[\"b\"]]\n[\"row\",\"b\",\"00002\"]\n[\"using\",[\"a\"]]\n";
+
+#[test]
+fn what_is_told_of_requests(rt: HostRuntime) -> Result<(), Fail> {
+    let alloc = rt.alloc();
+    for (more, text) in [
+        (
+            "[\"impl\",\"a@00001\",\"a()\"]",
+            "\"a.script\": module \"a\" is not ready (loaded): \"b\", which it needs, was not answered",
+        ),
+        (
+            "[\"impl\",\"b@00002\",\"b()\"]\n[\"state\",\"a\",\"missing\"]",
+            "\"a.script\": module \"a\" is not ready (missing): it is missing",
+        ),
+        (
+            "[\"impl\",\"a@00001\",\"a()\"]\n[\"state\",\"b\",\"error\"]",
+            "\"a.script\": module \"a\" is not ready (error): \"b\", which it needs, is in error",
+        ),
+    ] {
+        let script = format!(in alloc; "{TWO}{more}")?;
+        let mut tree = tree_of(alloc, "a.script", script.as_bytes())?;
+        assert_eq!(rt;
+            line(alloc, &["drive", "a.script"], &mut tree)?.as_str(),
+            text
+        );
     }
     Ok(())
 }

@@ -16,7 +16,7 @@ returns-in-Ok-clause-answer g c =
     let are = subst (λ (places : List ℕ). AreFiles (g.T.Tree.files c.args.tree.now) (names_at (texts c.args.words.now) places) c.in-Ok.files.items)
     c.files.ensures c.in-Ok.ensures.files in
     let answers = subst (λ (files : List Text). AnswersVerdict (verdict_on throws (meant c.in-Some.command) files)
-    (ending c.answer.result.status c.answer.result.word c.answer.result.breach) (g.O.Sink.written c.args.out.now) (g.O.Sink.written c.answer.new.out))
+    (ending c.answer.result.status c.answer.result.word c.answer.result.breach c.answer.result.unready) (g.O.Sink.written c.args.out.now) (g.O.Sink.written c.answer.new.out))
     c.as_slice.ensures.value c.answer.ensures.answers in
     let heard = subst (λ (files : List Text). AreHeard c.answer.result.status (executed_by throws (meant c.in-Some.command) files)
     (g.H.Hears.told c.args.observers.now) (g.H.Hears.told c.answer.new.observers))

@@ -17,7 +17,7 @@ pub returns-clause-too_large : goal.returns-clause-too_large
 returns-clause-too_large g c =
     too_large (throws_by (λ k s. list_any (λ o. (goal.Observer-dyn g (o.vtable, o.value)).throws o.value k s) c.args.observers.items))
     (g.T.Tree.files c.args.tree.now) (texts c.args.words.now)
-    (ending c.end_of-status.result.status c.end_of-status.result.word c.end_of-status.result.breach)
+    (ending c.end_of-status.result.status c.end_of-status.result.word c.end_of-status.result.breach c.end_of-status.result.unready)
     (g.O.Sink.written c.args.out.now) (g.O.Sink.written c.end_of-status.new.out)
     (map (λ o. (goal.Observer-dyn g (o.vtable, o.value)).ran o.value) c.args.observers.items)
     (map (λ o. (goal.Observer-dyn g (o.vtable, o.value)).ran o.value) c.end_of-status.new.observers.all.items)
@@ -27,7 +27,7 @@ pub returns-clause-unheard : goal.returns-clause-unheard
 returns-clause-unheard g c =
     unheard (throws_by (λ k s. list_any (λ o. (goal.Observer-dyn g (o.vtable, o.value)).throws o.value k s) c.args.observers.items))
     (g.T.Tree.files c.args.tree.now) (texts c.args.words.now)
-    (ending c.end_of-status.result.status c.end_of-status.result.word c.end_of-status.result.breach)
+    (ending c.end_of-status.result.status c.end_of-status.result.word c.end_of-status.result.breach c.end_of-status.result.unready)
     (g.O.Sink.written c.args.out.now) (g.O.Sink.written c.end_of-status.new.out)
     (map (λ o. (goal.Observer-dyn g (o.vtable, o.value)).ran o.value) c.args.observers.items)
     (map (λ o. (goal.Observer-dyn g (o.vtable, o.value)).ran o.value) c.end_of-status.new.observers.all.items)
@@ -37,7 +37,7 @@ pub returns-clause-headline : goal.returns-clause-headline
 returns-clause-headline g c =
     headline (throws_by (λ k s. list_any (λ o. (goal.Observer-dyn g (o.vtable, o.value)).throws o.value k s) c.args.observers.items))
     (g.T.Tree.files c.args.tree.now) (texts c.args.words.now)
-    (ending c.end_of-status.result.status c.end_of-status.result.word c.end_of-status.result.breach)
+    (ending c.end_of-status.result.status c.end_of-status.result.word c.end_of-status.result.breach c.end_of-status.result.unready)
     (g.O.Sink.written c.args.out.now) (g.O.Sink.written c.end_of-status.new.out)
     (map (λ o. (goal.Observer-dyn g (o.vtable, o.value)).ran o.value) c.args.observers.items)
     (map (λ o. (goal.Observer-dyn g (o.vtable, o.value)).ran o.value) c.end_of-status.new.observers.all.items)
@@ -47,7 +47,7 @@ pub returns-clause-complete : goal.returns-clause-complete
 returns-clause-complete g c =
     complete (throws_by (λ k s. list_any (λ o. (goal.Observer-dyn g (o.vtable, o.value)).throws o.value k s) c.args.observers.items))
     (g.T.Tree.files c.args.tree.now) (texts c.args.words.now)
-    (ending c.end_of-status.result.status c.end_of-status.result.word c.end_of-status.result.breach)
+    (ending c.end_of-status.result.status c.end_of-status.result.word c.end_of-status.result.breach c.end_of-status.result.unready)
     (g.O.Sink.written c.args.out.now) (g.O.Sink.written c.end_of-status.new.out)
     (map (λ o. (goal.Observer-dyn g (o.vtable, o.value)).ran o.value) c.args.observers.items)
     (map (λ o. (goal.Observer-dyn g (o.vtable, o.value)).ran o.value) c.end_of-status.new.observers.all.items)

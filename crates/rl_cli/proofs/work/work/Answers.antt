@@ -1,6 +1,7 @@
 use Rattle.std.proofs.Common.{sym, subst}
 use Rattle.rl_names.specs.Meant.{Gives}
 use Rattle.rl_script_spec.specs.Script.{verdict_of}
+use Rattle.rl_script_spec.specs.Unready.{unready_in}
 use Rattle.rl_view_spec.specs.Closure.{Text}
 use Rattle.rl_view_spec.specs.View.{Throws}
 use Rattle.rl_view.specs.Heard.{throws_by}
@@ -15,7 +16,7 @@ pub returns-in-Drive-clause-gives : goal.returns-in-Drive-clause-gives
 returns-in-Drive-clause-gives g c =
     let throws : Throws = throws_by (g.H.Hears.says c.args.observers.now) in
     let P : Command → Type 0 = λ command. Gives fault_told c.play_script.result (verdict_on throws (meant command) c.args.files.now) in
-    let Q : Text → Type 0 = λ bytes. Gives fault_told c.play_script.result (of_script 1 (verdict_of throws bytes)) in
+    let Q : Text → Type 0 = λ bytes. Gives fault_told c.play_script.result (of_script 1 (unready_in throws bytes) (verdict_of throws bytes)) in
     subst P (sym c.in-Drive.is) (subst Q c.bytes_of.ensures c.play_script.ensures.gives)
 
 pub returns-in-Drive-clause-heard : goal.returns-in-Drive-clause-heard
