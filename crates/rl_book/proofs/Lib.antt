@@ -17,4 +17,5 @@ pub mod RequestingLemmas
 pub mod SeenLemmas
 pub mod TakenLemmas
 pub mod TellingLemmas
+pub mod TookLemmas
 pub mod UsedLemmas
