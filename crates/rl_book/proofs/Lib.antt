@@ -15,6 +15,7 @@ pub mod PartsLemmas
 pub mod RanLemmas
 pub mod RequestingLemmas
 pub mod SeenLemmas
+pub mod ServingLemmas
 pub mod TakenLemmas
 pub mod TellingLemmas
 pub mod TookLemmas

@@ -19,6 +19,7 @@ use Rattle.rl_book_spec.specs.Traffic.{Traffic}
 use Rattle.rl_book_spec.specs.declared.Call.{Call}
 use Rattle.rl_book.specs.Kept.{IsKept, KeepsParts, booked, rows_in, rows_said}
 use Rattle.rl_book.specs.Opens.{IsOpened, opened}
+use Rattle.rl_book.specs.Requesting.{ArePlaces}
 use Rattle.rl_book.specs.declared.answer.Run.{Run}
 use Rattle.rl_book.specs.declared.visit.Visit.TheInside.{Inside}
 use Rattle.rl_book.proofs.PartsLemmas.{fresh_parts}
@@ -30,6 +31,7 @@ pub record IsFresh (i : Inside) (said : Startup) : Type 0 where
   pub few : length said.rows ≤ limits.MAX_ROWS
   pub distinct : HasDistinctNames (record { rows = said.rows; features = i.plan.features })
   pub table : i.table ≡ fresh_progress (record { rows = said.rows; features = i.plan.features })
+  pub places : ArePlaces (record { rows = said.rows; features = i.plan.features }) i.embedded.items i.places.items
   pub delivered : i.delivered.items ≡ replicate (length said.rows) None
   pub requests : i.requests ≡ record { batches = []; waiting = []; asks = [] }
   pub calls : i.calls.items ≡ []
@@ -66,6 +68,7 @@ fresh_kept i said f =
       base = f.base;
       seen =
           subst (λ (b : Booked). HasSeen (view_in b) (events_in b) (rows_run b) i.table) same (seen_fresh (view_in b) i.table f.distinct f.table);
+      places = subst (λ (b : Booked). ArePlaces b.opening.registered i.embedded.items i.places.items) same f.places;
       parts = subst (λ (b : Booked). KeepsParts b.opening b.past i.delivered.items) same (fresh_parts b.opening i.delivered.items f.delivered);
       requests = subst (λ (b : Booked). i.requests ≡ traffic_in b) same f.requests;
       runs = λ at run there. absurd (none_there at run i.runs.items f.runs there);
@@ -79,10 +82,10 @@ fresh_kept i said f =
 pub opened_fresh : (i : Inside) (said : Startup) (registry : Registered) (rows : List Row) (startup : Text) → startup_of startup ≡ Ok said
     → rows ≡ said.rows → i.startup ≡ startup → registry ≡ record { rows = rows; features = i.plan.features } → IsBase i.plan.base
     → length registry.rows ≤ limits.MAX_ROWS → HasDistinctNames registry → i.table ≡ fresh_progress registry
-    → i.delivered.items ≡ replicate (length registry.rows) None
+    → ArePlaces registry i.embedded.items i.places.items → i.delivered.items ≡ replicate (length registry.rows) None
     → i.requests ≡ record { batches = []; waiting = []; asks = [] } → i.calls.items ≡ [] → i.runs.items ≡ []
     → length registry.rows ≤ vec_capacity i.runs → IsFresh i said
-opened_fresh i said registry rows startup says are kept made base few distinct table delivered requests calls runs room =
+opened_fresh i said registry rows startup says are kept made base few distinct table places delivered requests calls runs room =
     let is : registry ≡ record { rows = said.rows; features = i.plan.features } =
     made ∙ ap (λ (rows : List Row). record { rows = rows; features = i.plan.features }) are in
     record {
@@ -91,6 +94,7 @@ opened_fresh i said registry rows startup says are kept made base few distinct t
       few = subst (λ (r : Registered). length r.rows ≤ limits.MAX_ROWS) is few;
       distinct = subst HasDistinctNames is distinct;
       table = table ∙ ap fresh_progress is;
+      places = subst (λ (r : Registered). ArePlaces r i.embedded.items i.places.items) is places;
       delivered = delivered ∙ ap (λ (r : Registered). replicate (length r.rows) None) is;
       requests = requests;
       calls = calls;

@@ -22,6 +22,7 @@ use Rattle.rl_book_spec.specs.declared.Origin.{Origin}
 use Rattle.rl_book_spec.specs.declared.Origin.TheVariants as origin
 use Rattle.rl_book.specs.Calls.{IsRun}
 use Rattle.rl_book.specs.Opens.{opening_of}
+use Rattle.rl_book.specs.Requesting.{ArePlaces}
 use Rattle.rl_book.specs.declared.answer.Run.{Run}
 use Rattle.rl_book.specs.declared.given.Delivered.{Delivered}
 use Rattle.rl_book.specs.declared.visit.Visit.TheInside.{Inside}
@@ -68,6 +69,7 @@ pub record IsKept (b : Inside) : Type 0 where
   pub book : IsBook (booked b)
   pub base : IsBase b.plan.base
   pub seen : HasSeen (view_in (booked b)) (events_in (booked b)) (rows_run (booked b)) b.table
+  pub places : ArePlaces (booked b).opening.registered b.embedded.items b.places.items
   pub parts : KeepsParts (booked b).opening (booked b).past b.delivered.items
   pub requests : b.requests ≡ traffic_in (booked b)
   pub runs : (at : ℕ) (run : Run) → slice_get b.runs.items at ≡ Some run → IsRun (booked b) (run.row, run.threw) run

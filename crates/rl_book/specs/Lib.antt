@@ -6,3 +6,4 @@ pub mod Kept
 pub mod Opens
 pub mod Reads
 pub mod Requesting
+pub mod Serving

@@ -63,6 +63,29 @@ impl From<RegistryError> for OpenError {
     }
 }
 
+/// Why names are not requested together.
+#[derive(Debug, Drop, Error)]
+pub enum UsingError {
+    /// The least of the names that have no row and are led to.
+    #[error("{} is unknown", .name.as_str())]
+    Unknown { name: Text },
+    /// The least name that leads back to itself.
+    #[error("{} leads back to itself", .name.as_str())]
+    Cycle { name: Text },
+    #[error("out of memory")]
+    NoMemory,
+}
+
+impl From<NoMemory> for UsingError {
+    ghost use Rattle.rl_book.specs.declared.error.UsingError.TheVariants.{NoMemory};
+
+    ghost from_gives = { λ _ e. e ≡ NoMemory };
+
+    fn from(_error: NoMemory) -> Self {
+        UsingError::NoMemory
+    }
+}
+
 /// Why an ask is not lost.
 #[derive(Clone, Copy, Debug, PartialEq, Eq, Error)]
 pub enum LoseRefusal {

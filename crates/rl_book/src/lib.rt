@@ -9,12 +9,13 @@ mod giving;
 mod opening;
 mod requesting;
 mod running;
+mod serving;
 #[cfg(test)]
 mod tests;
 mod touching;
 pub mod visit;
 
 pub use answer::{Ask, Lost, Run};
-pub use error::{LoseRefusal, OpenError};
+pub use error::{LoseRefusal, OpenError, UsingError};
 pub use rl_book_spec::{Call, Mark, Origin, Plan, Took};
 pub use visit::Visit;

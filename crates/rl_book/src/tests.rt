@@ -7,6 +7,7 @@ use rl_base::Hears;
 use rl_names::{Blob, Key, NoMemory, Only, Query, Seq, Text};
 use rl_states::Phase;
 use std::alloc::Global;
+use std::slice;
 use std::test::Fail;
 
 /// What `lang=en&skin=vector` reads as.
@@ -196,5 +197,40 @@ fn nothing_is_due(rt: HostRuntime) -> Result<(), Fail> {
     assert!(rt; resumes(&mut visit, &mut observers));
     assert!(rt; observers.heard == 0);
     assert!(rt; counts(&visit) == (0, 0, 0));
+    Ok(())
+}
+
+/// Whether a name is requested.
+fn uses(visit: &mut Visit, name: Text, observers: &mut Silent) -> bool {
+    visit.using(slice::from_ref(&name), observers).is_ok()
+}
+
+/// A row that nothing came for waits to be asked for.
+#[test]
+fn a_requested_name_waits(rt: HostRuntime) -> Result<(), Fail> {
+    let alloc = rt.alloc();
+    let mut visit = opened(alloc)?;
+    let name = Text::of(alloc, "b")?;
+    assert!(rt; uses(&mut visit, name, &mut Silent { heard: 0 }));
+    assert!(rt; is_waiting(&visit));
+    assert!(rt; counts(&visit) == (1, 0, 0));
+    Ok(())
+}
+
+fn opened_with_part(alloc: Global) -> Result<Visit, Fail> {
+    let part = "mw.loader.implement(\"e@96okj\",\"e()\\n\",{},{});\n";
+    Ok(open(alloc, "[\"e\",\"eeeee\"]", part)?.map_err(|_error| "a view")?)
+}
+
+/// What came with the page executes as soon as it is requested.
+#[test]
+fn an_embedded_part_executes(rt: HostRuntime) -> Result<(), Fail> {
+    let alloc = rt.alloc();
+    let mut visit = opened_with_part(alloc)?;
+    let mut observers = Silent { heard: 0 };
+    let name = Text::of(alloc, "e")?;
+    assert!(rt; uses(&mut visit, name, &mut observers));
+    assert!(rt; observers.heard == 1);
+    assert!(rt; counts(&visit) == (1, 1, 0));
     Ok(())
 }

@@ -7,22 +7,26 @@ ghost use Rattle.rl_batch.specs.Requests.{MayBeLost};
 ghost use Rattle.rl_book_spec.specs.Kept.{IsBook, Notes, is_due, plan_in, registered_in, traffic_in};
 ghost use Rattle.rl_book_spec.specs.Traffic.{all_settled};
 ghost use Rattle.rl_book_spec.specs.declared.Call.TheVariants.{Take, Lose};
-ghost use Rattle.rl_book.specs.Calls.{ExecutesNext, IsRun, Loses, Refuses, Resumes, StateIs, Takes, batch_at, due_row, has_waiting};
+ghost use Rattle.rl_book.specs.Calls.{ExecutesNext, IsRun, Loses, Refuses, Rests, Resumes, StateIs, Takes, batch_at, due_row, has_waiting};
 ghost use Rattle.rl_book.specs.Calls.{is_answered, is_lost_at, is_settled_at, losses_at, next_ask};
 ghost use Rattle.rl_book.specs.Opens.{Opens};
+ghost use Rattle.rl_book.specs.Serving.{NotesUsing, RequestsAll};
 
 use crate::answer::{Ask, Lost, Run};
-use crate::error::{LoseRefusal, OpenError};
+use crate::error::{LoseRefusal, OpenError, UsingError};
 use crate::given::{Delivered, none_delivered};
 use crate::giving::give_up_at_third;
 use crate::opening::{parts_said, rows_said};
+use crate::requesting::request;
 use crate::running::{first_named, run_with};
+use crate::serving::{copies, make_room};
+use crate::touching::places_of;
 use rl_base::Hears;
 use rl_batch::Requests;
 use rl_batch::requests::is_settled;
 use rl_book_spec::{Call, Mark, Origin, Plan};
-use rl_names::{Blob, NoMemory};
-use rl_registry::Registry;
+use rl_names::{Blob, NoMemory, Seq, Text};
+use rl_registry::{Registry, ResolveError};
 use rl_states::{Phase, Table};
 use rl_view::uncounted;
 use rl_wire::Part;
@@ -44,6 +48,9 @@ pub struct Visit {
     embedded: Vec<Part>,
 
     table: Table,
+
+    /// For each row the place of the first embedded part of its name, if there is one.
+    places: Vec<Option<usize>>,
 
     /// For each row the part of an answer that it took, if it took one.
     delivered: Vec<Option<Delivered>>,
@@ -78,6 +85,7 @@ impl Visit {
         let count = registry.count();
         let runs = Vec::with_capacity(alloc, count as usize)?;
         let delivered = none_delivered(alloc, count)?;
+        let places = places_of(alloc, &registry, embedded.as_slice())?;
         let table = Table::open(alloc, registry)?;
         let startup = Blob::of(alloc, startup)?;
         Ok(Visit {
@@ -86,6 +94,7 @@ impl Visit {
             plan,
             embedded,
             table,
+            places,
             delivered,
             requests: Requests::new(alloc),
             calls: Vec::new(alloc),
@@ -196,6 +205,51 @@ impl Visit {
         ensures { result ≡ has_waiting (traffic_in self.now) }
     {
         self.requests.has_waiting()
+    }
+
+    /// Notes a request of names together, which nothing executes for yet; or says why they are refused.
+    fn note_using(&mut self, names: &[Text]) -> Result<(), UsingError>
+        requires { Rests self.old }
+        ensures { NotesUsing result names.now self.old self.new }
+    {
+        let copies = copies(self.alloc, names)?;
+        make_room(&mut self.calls, &self.requests)?;
+        let done = request(
+            self.alloc,
+            &mut self.table,
+            &mut self.requests,
+            &self.plan,
+            self.embedded.as_slice(),
+            self.places.as_slice(),
+            names,
+        );
+        match done {
+            Ok(()) => {
+                let names = Seq::of(copies);
+                self.calls.push_reserved(Call::Using { names });
+                Ok(())
+            }
+            Err(ResolveError::Unknown { name }) => Err(UsingError::Unknown { name }),
+            Err(ResolveError::Cycle { name }) => Err(UsingError::Cycle { name }),
+            Err(ResolveError::NoMemory) => Err(UsingError::NoMemory),
+        }
+    }
+
+    /// Requests names together, or refuses them all: the first of what was due executes, then what the request made due,
+    /// and the observers are told of each execution before it counts.
+    pub fn using<O: Hears>(&mut self, names: &[Text], observers: &mut O) -> Result<(), UsingError>
+        ensures serves { RequestsAll (O.says observers.old) result names.now self.old self.new (O.told observers.old) (O.told observers.new) }
+        ensures fixed { (k : Key) (s : List ℕ) → O.says observers.new k s ≡ O.says observers.old k s }
+        ensures same { (first : O) → O.same first observers.old → O.same first observers.new }
+    {
+        self.resume(observers)?;
+        match self.note_using(names) {
+            Ok(()) => match self.resume(observers) {
+                Ok(()) => Ok(()),
+                Err(NoMemory) => Err(UsingError::NoMemory),
+            },
+            Err(error) => Err(error),
+        }
     }
 
     /// The execution of a row that was answered with an implementation, before any observer was told of it.
