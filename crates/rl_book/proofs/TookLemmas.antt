@@ -1,12 +1,12 @@
 -- What is kept of the parts that rows took stays right after a delivery.
 use Rattle.std.proofs.Common.{◌≡◌, ◌<◌, ℕ, List, [], ◌∷◌, Bool, true, false, ◌&&◌, not, Option, Some, None, length, refl, ap, sym, subst, ◌∙◌, nat_eq}
-use Rattle.std.specs.Prelude.{Contains, if◌then◌else◌, is_none, is_some, option_and_then, option_map, slice_get, Result, Ok, Err}
+use Rattle.std.specs.Prelude.{Contains, if◌then◌else◌, is_none, is_some, option_map, slice_get, Result, Ok}
 use Rattle.std.specs.List.{list_any}
 use Rattle.std.proofs.lemmas.Option.{slice_get_within}
-use Rattle.rl_view_spec.specs.Closure.{Text, Registered, in_closures, is_skipped}
+use Rattle.rl_view_spec.specs.Closure.{Text, is_skipped}
 use Rattle.rl_view_spec.specs.Keys.{never}
 use Rattle.rl_view_spec.specs.Progress.{Progress, name_at}
-use Rattle.rl_view_spec.specs.View.{View, Event, Answer, Throws, answer_in, first_of, is_touched, log_of, or_else}
+use Rattle.rl_view_spec.specs.View.{View, Event, Answer, Throws, answer_in, is_touched, log_of, or_else}
 use Rattle.rl_view_spec.proofs.ObservedLemmas.{first_same}
 use Rattle.rl_view_spec.proofs.ToolsLemmas.{place_there}
 use Rattle.rl_view.specs.Seen.{HasSeen, asks, counts_at}
@@ -14,15 +14,14 @@ use Rattle.rl_view.proofs.AnswersLemmas.{counting_at}
 use Rattle.rl_view.proofs.NowLemmas.{seen_begin}
 use Rattle.rl_wire.specs.Reading as wire
 use Rattle.rl_wire.specs.declared.part.Part.{Part}
-use Rattle.rl_book_spec.specs.Book.{bring, event_of, events_of, parts_for}
-use Rattle.rl_book_spec.specs.Given.{given_at_touch, given_by, given_in, given_to, outcome_of}
+use Rattle.rl_book_spec.specs.Book.{event_of, events_of}
+use Rattle.rl_book_spec.specs.Given.{given_by, given_in, given_to, outcome_of}
 use Rattle.rl_book_spec.specs.Opening.{Opening, answer_of, part_of, view_of}
 use Rattle.rl_book_spec.specs.Traffic.{Traffic, asked_of, holds, traffic_of}
 use Rattle.rl_book_spec.specs.declared.Asked.{Asked}
 use Rattle.rl_book_spec.specs.declared.Call.{Call}
 use Rattle.rl_book_spec.specs.declared.Call.TheVariants.{Deliver}
 use Rattle.rl_book_spec.specs.declared.Mark.{Mark}
-use Rattle.rl_book_spec.specs.declared.Origin.{Origin}
 use Rattle.rl_book_spec.specs.declared.Origin.TheVariants as origin
 use Rattle.rl_book_spec.specs.declared.Sent.{Sent}
 use Rattle.rl_book_spec.specs.declared.Took.{Took}
