@@ -16,14 +16,15 @@ const VERSION: &str = "loader 0.1.0\n";
 const HELP: &str = "\
 loader: both ends of a wiki's loader of scripts
 
-  loader drive SCRIPT           what the client does with the rows, requests and parts of a script
-  loader load DEFS - - QUERY    what a wiki of these definitions answers to a query
-  loader --help                 this text
-  loader --version              the version of the program
+  loader drive SCRIPT                 what the client does with the rows, requests and parts of a script
+  loader load DEFS - - QUERY          what a wiki of these definitions answers to a query
+  loader startup DEFS - - LANG SKIN   what a client of this wiki starts from, in a language and with a skin
+  loader --help                       this text
+  loader --version                    the version of the program
 
 Before the words of a command there may be options, any number of times:
 
-  --throw NAME                  the script of the module NAME throws where it executes
+  --throw NAME                        the script of the module NAME throws where it executes
 
 A file word may lead anywhere that the user may read; one that does not begin with `/`
 leads from the current folder. The status is 0, or 2 where words or a file are at fault,

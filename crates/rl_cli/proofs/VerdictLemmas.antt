@@ -22,8 +22,8 @@ use Rattle.rl_build.specs.Sight.{sight}
 use Rattle.rl_loadphp.specs.Answer.{answer_of}
 use Rattle.rl_loadphp.specs.Refusal as query
 use Rattle.rl_loadphp.specs.declared.answers.Answer.{Answer}
-use Rattle.rl_cli.specs.Verdict.{Verdict, of_query, Fault as Refused, Exceeds, of_script, of_breach, of_answer, of_reading, file_at, verdict_on}
-use Rattle.rl_cli.specs.Words.{Command, Drive, Load}
+use Rattle.rl_cli.specs.Verdict.{Verdict, of_query, Fault as Refused, Exceeds, of_script, of_breach, of_answer, of_reading, of_start, file_at, verdict_on}
+use Rattle.rl_cli.specs.Words.{Command, Drive, Load, Startup}
 
 abbrev IsOfContent : script.Verdict → Type 0
 IsOfContent (TooMany what count) = what ≢ counted.FileBytes
@@ -89,9 +89,14 @@ reading_of_work : (asked : Text) (r : Result Catalogue definitions.Refusal) → 
 reading_of_work asked (Ok catalogue) h = answer_of_work 4 (answer_of (sight catalogue [] Anon) asked)
 reading_of_work asked (Err refusal) h = breach_of_work 1 refusal h
 
+start_of_work : (lang skin : Text) (r : Result Catalogue definitions.Refusal) → IsOfReading r → IsOfWork (of_start lang skin r)
+start_of_work lang skin (Ok catalogue) h = tt
+start_of_work lang skin (Err refusal) h = breach_of_work 1 refusal h
+
 pub is_of_work : (throws : Throws) (command : Command) (files : List Text) → IsOfWork (verdict_on throws command files)
 is_of_work throws Drive files = script_of_work 1 (unready_in throws (file_at files 0)) (verdict_of throws (file_at files 0)) (is_of_content throws (file_at files 0))
 is_of_work throws (Load asked) files = reading_of_work asked (reading (file_at files 0)) (reading_is_of_definitions (file_at files 0))
+is_of_work throws (Startup lang skin) files = start_of_work lang skin (reading (file_at files 0)) (reading_is_of_definitions (file_at files 0))
 
 -- ---- a refusal that is told
 

@@ -1,8 +1,9 @@
 -- The command that the code reads, as one over texts.
 use Rattle.rl_cli.specs.Words as words
 use Rattle.rl_cli.specs.declared.words.Command.{Command}
-use Rattle.rl_cli.specs.declared.words.Command.TheVariants.{Drive, Load}
+use Rattle.rl_cli.specs.declared.words.Command.TheVariants.{Drive, Load, Startup}
 
 abbrev pub meant : Command → words.Command
 meant Drive = words.Drive
 meant (Load query) = words.Load query.now
+meant (Startup lang skin) = words.Startup lang.now skin.now

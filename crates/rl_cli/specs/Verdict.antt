@@ -1,5 +1,5 @@
 -- What a command makes of its files, before anything is written.
-use Rattle.std.specs.Prelude.{◌≡◌, ℕ, List, [], true, slice_index_or, Option, Some, None, Result, Ok, Err, option_and_then}
+use Rattle.std.specs.Prelude.{◌≡◌, ℕ, List, [], true, false, slice_index_or, Option, Some, None, Result, Ok, Err, option_and_then}
 use Rattle.std.specs.Option.{option_map_or}
 use Rattle.rl_names.specs.declared.counted.Counted.{Counted}
 use Rattle.rl_names.specs.declared.counted.Counted.TheVariants as counted
@@ -16,11 +16,13 @@ use Rattle.rl_defs.specs.Breach.{reading}
 use Rattle.rl_defs.specs.Catalogue.{Catalogue}
 use Rattle.rl_defs.specs.Refusal as definitions
 use Rattle.rl_pages.specs.declared.viewer.Viewer.TheVariants.{Anon}
+use Rattle.rl_build.specs.Context.{context_of}
 use Rattle.rl_build.specs.Sight.{sight}
 use Rattle.rl_loadphp.specs.Answer.{answer_of}
 use Rattle.rl_loadphp.specs.Refusal as query
 use Rattle.rl_loadphp.specs.declared.answers.Answer.{Answer}
-use Rattle.rl_cli.specs.Words.{Command, Drive, Load}
+use Rattle.rl_startup.specs.Registry.{startup_text_of}
+use Rattle.rl_cli.specs.Words.{Command, Drive, Load, Startup}
 use Rattle.rl_cli.specs.declared.work.Printed.{Printed}
 use Rattle.rl_cli.specs.declared.work.WorkError.{WorkError}
 use Rattle.rl_cli.specs.declared.work.WorkError.TheVariants as errors
@@ -68,6 +70,12 @@ abbrev pub of_reading : Text → Result Catalogue definitions.Refusal → Verdic
 of_reading asked (Ok catalogue) = of_answer 4 (answer_of (sight catalogue [] Anon) asked)
 of_reading asked (Err breach) = Err (of_breach 1 breach)
 
+-- What a client of nobody starts from is printed. It has no requests.
+abbrev pub of_start : Text → Text → Result Catalogue definitions.Refusal → Verdict
+of_start lang skin (Ok catalogue) =
+    Ok record { text = startup_text_of (sight catalogue [] Anon) (context_of catalogue lang skin false); ready = true; word = 0; unready = None }
+of_start lang skin (Err breach) = Err (of_breach 1 breach)
+
 -- the bytes of the file of this number, counted from 0
 abbrev pub file_at : List Text → ℕ → Text
 file_at files number = slice_index_or files number []
@@ -76,11 +84,13 @@ file_at files number = slice_index_or files number []
 abbrev pub verdict_on : Throws → Command → List Text → Verdict
 verdict_on throws Drive files = of_script 1 (unready_in throws (file_at files 0)) (script.verdict_of throws (file_at files 0))
 verdict_on throws (Load asked) files = of_reading asked (reading (file_at files 0))
+verdict_on throws (Startup lang skin) files = of_start lang skin (reading (file_at files 0))
 
 -- what it executes
 abbrev pub executed_by : Throws → Command → List Text → List (Key × Text)
 executed_by throws Drive files = executions_in throws (file_at files 0)
 executed_by throws (Load asked) files = []
+executed_by throws (Startup lang skin) files = []
 
 -- All that it executes is heard of, or a front of it where memory ran out. Where the work comes to nothing, nothing is.
 abbrev pub IsHeard : Result Printed WorkError → List (Key × Text) → List (List (Key × Text)) → List (List (Key × Text)) → Type 0

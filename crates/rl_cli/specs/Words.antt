@@ -8,29 +8,38 @@ use Rattle.rl_view_spec.specs.Closure.{Text}
 pub data Command : Type 0 where
   Drive : Command
   Load : (query : Text) → Command
+  Startup : (lang skin : Text) → Command
 
 -- `drive SCRIPT`
 abbrev pub drive_of : List Text → Option Command
 drive_of (word ∷ script ∷ []) = if bytes_eq word (codes "drive") then Some Drive else None
 drive_of other = None
 
--- `load`, and `-` for no file of pages and for nobody
-abbrev pub is_load : Text → Text → Text → Bool
-is_load word pages viewer = bytes_eq word (codes "load") && bytes_eq pages (codes "-") && bytes_eq viewer (codes "-")
+-- `-` for no file of pages, and for a viewer who is nobody
+abbrev pub is_of_nobody : Text → Text → Bool
+is_of_nobody pages viewer = bytes_eq pages (codes "-") && bytes_eq viewer (codes "-")
 
 -- `load DEFS - - QUERY`
 abbrev pub load_of : List Text → Option Command
-load_of (word ∷ definitions ∷ pages ∷ viewer ∷ query ∷ []) = if is_load word pages viewer then Some (Load query) else None
+load_of (word ∷ definitions ∷ pages ∷ viewer ∷ query ∷ []) =
+    if bytes_eq word (codes "load") && is_of_nobody pages viewer then Some (Load query) else None
 load_of other = None
+
+-- `startup DEFS - - LANG SKIN`
+abbrev pub startup_of : List Text → Option Command
+startup_of (word ∷ definitions ∷ pages ∷ viewer ∷ lang ∷ skin ∷ []) =
+    if bytes_eq word (codes "startup") && is_of_nobody pages viewer then Some (Startup lang skin) else None
+startup_of other = None
 
 -- no other words are a command
 abbrev pub command_of : List Text → Option Command
-command_of words = option_or (drive_of words) (load_of words)
+command_of words = option_or (drive_of words) (option_or (load_of words) (startup_of words))
 
 -- The places of the words that name the files of a command, in their order. The word of the command has place 0.
 abbrev pub files_of : Command → List ℕ
 files_of Drive = 1 ∷ []
 files_of (Load query) = 1 ∷ []
+files_of (Startup lang skin) = 1 ∷ []
 
 -- the word of a place
 abbrev pub word_at : List Text → ℕ → Text

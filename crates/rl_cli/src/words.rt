@@ -1,6 +1,6 @@
 //! The words of a call: which command they are, and which of them name files.
 ghost use Rattle.std.specs.Prelude.{◌≡◌, option_map};
-ghost use Rattle.rl_cli.specs.Words.{command_of, drive_of, load_of, is_load as is_load_of, texts, files_of, word_at as word_of};
+ghost use Rattle.rl_cli.specs.Words.{command_of, drive_of, load_of, startup_of, is_of_nobody, texts, files_of, word_at as word_of};
 ghost use Rattle.rl_cli.specs.Meant.{meant};
 
 /// What the words ask for. The words that name files are told by their places ([`Command::files`]).
@@ -11,6 +11,8 @@ pub enum Command<'a> {
     /// `load DEFS - - QUERY`: what a wiki of these definitions answers to a query, for a viewer who is
     /// nobody. The two words between stand for no file of pages and for nobody.
     Load { query: &'a str },
+    /// `startup DEFS - - LANG SKIN`: what a client of nobody starts from, in this language and with this skin.
+    Startup { lang: &'a str, skin: &'a str },
 }
 
 /// The words `drive SCRIPT`.
@@ -27,11 +29,11 @@ fn drive_words<'a>(words: &[&'a str]) -> Option<Command<'a>>
     }
 }
 
-/// Whether the words that stand round DEFS are those of `load`.
-fn is_load(word: &str, pages: &str, viewer: &str) -> bool
-    ensures { result ≡ is_load_of word.now pages.now viewer.now }
+/// Whether there is no file of pages, and the viewer is nobody.
+fn is_of_nobody(pages: &str, viewer: &str) -> bool
+    ensures { result ≡ is_of_nobody pages.now viewer.now }
 {
-    word == "load" && pages == "-" && viewer == "-"
+    pages == "-" && viewer == "-"
 }
 
 /// The words `load DEFS - - QUERY`.
@@ -41,8 +43,22 @@ fn load_words<'a>(words: &[&'a str]) -> Option<Command<'a>>
     let [word, _definitions, pages, viewer, query] = words else {
         return None;
     };
-    if is_load(word, pages, viewer) {
+    if *word == "load" && is_of_nobody(pages, viewer) {
         Some(Command::Load { query })
+    } else {
+        None
+    }
+}
+
+/// The words `startup DEFS - - LANG SKIN`.
+fn startup_words<'a>(words: &[&'a str]) -> Option<Command<'a>>
+    ensures { option_map meant result ≡ startup_of (texts words.now) }
+{
+    let [word, _definitions, pages, viewer, lang, skin] = words else {
+        return None;
+    };
+    if *word == "startup" && is_of_nobody(pages, viewer) {
+        Some(Command::Startup { lang, skin })
     } else {
         None
     }
@@ -53,10 +69,9 @@ impl<'a> Command<'a> {
     pub fn read(words: &[&'a str]) -> Option<Command<'a>>
         ensures { option_map meant result ≡ command_of (texts words.now) }
     {
-        match drive_words(words) {
-            Some(command) => Some(command),
-            None => load_words(words),
-        }
+        drive_words(words)
+            .or(load_words(words))
+            .or(startup_words(words))
     }
 
     /// The places of the words that name its files, in their order. The word of the command has
@@ -66,7 +81,7 @@ impl<'a> Command<'a> {
     {
         match self {
             Command::Drive => &[1],
-            Command::Load { .. } => &[1],
+            Command::Load { .. } | Command::Startup { .. } => &[1],
         }
     }
 }

@@ -1,5 +1,5 @@
 //! What a command makes of the bytes of its files.
-ghost use Rattle.std.specs.Prelude.{◌≡◌, ◌<◌, [], length, option_map};
+ghost use Rattle.std.specs.Prelude.{◌≡◌, ◌<◌, [], IfOk, false, length, option_map};
 ghost use Rattle.rl_names.specs.Meant.{Gives};
 ghost use Rattle.rl_script_spec.specs.Script.{verdict_of};
 ghost use Rattle.rl_script_spec.specs.Unready.{unready_in};
@@ -7,21 +7,25 @@ ghost use Rattle.rl_view.specs.Heard.{throws_by};
 ghost use Rattle.rl_drive.specs.Hearing.{executions_in};
 ghost use Rattle.rl_defs.specs.Breach.{reading};
 ghost use Rattle.rl_defs.specs.Refusal.{refusal_told as breach_told};
+ghost use Rattle.rl_build.specs.Context.{context_of};
 ghost use Rattle.rl_build.specs.Sight.{sight};
 ghost use Rattle.rl_loadphp.specs.Answer.{answer_of};
 ghost use Rattle.rl_loadphp.specs.Refusal.{refusal_told as query_told};
+ghost use Rattle.rl_startup.specs.Registry.{startup_text_of};
 ghost use Rattle.rl_cli.specs.Meant.{meant};
-ghost use Rattle.rl_cli.specs.Verdict.{IsHeard, executed_by, fault_told, file_at, of_breach as fault_of_breach, of_query as fault_of_query, of_reading, of_script, verdict_on};
+ghost use Rattle.rl_cli.specs.Verdict.{IsHeard, executed_by, fault_told, file_at, of_breach as fault_of_breach, of_query as fault_of_query, of_reading, of_script, of_start, verdict_on};
 ghost use Rattle.rl_cli.specs.Words.{files_of};
 
 use crate::words::Command;
 use rl_base::Hears;
+use rl_build::Context;
 use rl_defs::{Catalog, CatalogError};
 use rl_drive::{DriveError, drive};
 use rl_loadphp::{Answer, AnswerError, answer};
-use rl_names::{Blob, Counted};
+use rl_names::{Blob, Counted, NoMemory, Text};
 use rl_pages::{Pages, Viewer};
 use rl_script_spec::Unready;
+use rl_startup::startup_text;
 use std::alloc::Global;
 
 /// What a command prints.
@@ -72,6 +76,7 @@ pub fn work<H: Hears>(
     match command {
         Command::Drive => play_script(alloc, bytes_of(files, 0), 1, observers),
         Command::Load { query } => load(alloc, bytes_of(files, 0), query),
+        Command::Startup { lang, skin } => startup(alloc, bytes_of(files, 0), lang, skin),
     }
 }
 
@@ -172,5 +177,38 @@ fn load(alloc: Global, definitions: &[u8], query: &str) -> Result<Printed, WorkE
             unready: None,
         }),
         Err(error) => Err(of_query(4, error)),
+    }
+}
+
+/// The startup text of a viewer who is nobody, of a wiki without pages.
+fn nobodys_startup(
+    alloc: Global,
+    catalog: &Catalog,
+    lang: &str,
+    skin: &str,
+) -> Result<Text, NoMemory>
+    ensures { IfOk result (λ t. t ≡ startup_text_of (sight catalog.now [] Viewer.Anon) (context_of catalog.now lang.now skin.now false)) }
+{
+    let pages = Pages::empty(alloc)?;
+    let ctx = Context::read(alloc, catalog, lang.as_bytes(), skin.as_bytes(), false)?;
+    startup_text(alloc, catalog, &pages, &Viewer::Anon, &ctx)
+}
+
+/// What a client of nobody starts from, by definitions, which word 1 names.
+fn startup(alloc: Global, definitions: &[u8], lang: &str, skin: &str) -> Result<Printed, WorkError>
+    ensures { Gives fault_told result (of_start lang.now skin.now (reading definitions.now)) }
+{
+    let catalog = match Catalog::read(alloc, definitions) {
+        Ok(catalog) => catalog,
+        Err(breach) => return Err(of_breach(1, breach)),
+    };
+    match nobodys_startup(alloc, &catalog, lang, skin) {
+        Ok(text) => Ok(Printed {
+            text: Blob::from_vec(text.into_string().into_bytes()),
+            ready: true,
+            word: 0,
+            unready: None,
+        }),
+        Err(NoMemory) => Err(WorkError::NoMemory),
     }
 }

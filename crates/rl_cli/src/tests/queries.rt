@@ -23,13 +23,17 @@ scripts = ["a.js"]
 group = "private"
 "#;
 
-/// What `load` answers and writes for definitions and a query.
-fn loaded(alloc: Global, definitions: &str, query: &str) -> Result<(Status, Vec<u8>), Fail> {
+/// What a command answers and writes for definitions.
+fn written(alloc: Global, definitions: &str, words: &[&str]) -> Result<(Status, Vec<u8>), Fail> {
     let mut tree = tree_of(alloc, "a.toml", definitions.as_bytes())?;
     let mut out = MemSink::new(alloc, Vec::new(alloc))?;
-    let words = ["load", "a.toml", "-", "-", query];
-    let ended = run(alloc, &words, &mut tree, &mut out, Vec::new(alloc));
+    let ended = run(alloc, words, &mut tree, &mut out, Vec::new(alloc));
     Ok((ended.status, Vec::from_slice(alloc, out.written())?))
+}
+
+/// What `load` answers and writes for definitions and a query.
+fn loaded(alloc: Global, definitions: &str, query: &str) -> Result<(Status, Vec<u8>), Fail> {
+    written(alloc, definitions, &["load", "a.toml", "-", "-", query])
 }
 
 /// `modules=a`, repeated names apart, and so many bytes more.
@@ -161,5 +165,31 @@ fn large_answer(rt: HostRuntime) -> Result<(), Fail> {
         }
     );
     assert!(rt; written.is_empty());
+    Ok(())
+}
+
+const STARTUP: &str =
+    "mw.loader.addSource({\"local\":\"/load.php\"});\nmw.loader.register([[\"a\",\"96okj\"],[\"b\",\"wn61g\",[],2],[\"p\",\"\",[],1],[\"site\",\"186z7\",[4]],[\"site.styles\",\"186z7\",[],3],[\"user\",\"186z7\",[],0],[\"user.options\",\"\",[],1],[\"user.styles\",\"186z7\",[],0]]);\n";
+
+#[test]
+fn startup_texts(rt: HostRuntime) -> Result<(), Fail> {
+    let alloc = rt.alloc();
+    for (definitions, status, text) in [
+        (SHORT, Status::Done, STARTUP),
+        (
+            "[wiki",
+            Status::BadInput {
+                word: 1,
+                line: 0,
+                why: 11,
+            },
+            "",
+        ),
+    ] {
+        let words = ["startup", "a.toml", "-", "-", "en", "vector"];
+        let (ended, written) = written(alloc, definitions, &words)?;
+        assert_eq!(rt; ended, status);
+        assert_eq!(rt; written.as_slice(), text.as_bytes());
+    }
     Ok(())
 }
