@@ -5,6 +5,7 @@ pub mod DeliveredLemmas
 pub mod DeliveringLemmas
 pub mod ExecutingLemmas
 pub mod GivenLemmas
+pub mod LoadingLemmas
 pub mod LookingLemmas
 pub mod MarksLemmas
 pub mod NotedLemmas

@@ -59,7 +59,7 @@ module _ (i : Inside) (b : Booked) (k : IsKept i) (view : booked i ≡ b) (rests
   log_is : rows_run (booked i) ≡ log_of (view_in (booked i)) (events_in (booked i))
   log_is = stage_ends (view_in (booked i)) (events_in (booked i)) (rows_run (booked i)) k.book.stage end
 
-  seen_all : HasSeen (view_in (booked i)) (events_in (booked i)) (log_of (view_in (booked i)) (events_in (booked i))) i.table
+  pub seen_all : HasSeen (view_in (booked i)) (events_in (booked i)) (log_of (view_in (booked i)) (events_in (booked i))) i.table
   seen_all = subst (λ (log : List ℕ). HasSeen (view_in (booked i)) (events_in (booked i)) log i.table) log_is k.seen
 
   -- a call is noted, for which the table and the traffic are as they follow

@@ -1,10 +1,11 @@
 -- How a call is served: what was due executes, the call is noted, and what it made due executes.
-use Rattle.std.specs.Prelude.{◌≡◌, ◌⊎◌, ◌∷◌, List, Bool, IsTrue, Some, None, Result, Ok, Err}
+use Rattle.std.specs.Prelude.{◌≡◌, ◌⊎◌, ◌∷◌, ⊤, ℕ, List, Bool, IsTrue, count_by, not, Some, None, Result, Ok, Err}
 use Rattle.rl_names.specs.declared.name.Key.{Key}
-use Rattle.rl_view_spec.specs.Closure.{Text, Cycle, Unknown, refusal_of}
+use Rattle.rl_names.specs.declared.text.NoMemory.{NoMemory}
+use Rattle.rl_view_spec.specs.Closure.{Text, Cycle, Unknown, refusal_of, resolves}
 use Rattle.rl_book_spec.specs.Kept.{Booked, Notes, is_due}
 use Rattle.rl_book_spec.specs.declared.Call.{Call}
-use Rattle.rl_book_spec.specs.declared.Call.TheVariants.{Using}
+use Rattle.rl_book_spec.specs.declared.Call.TheVariants.{Using, Load}
 use Rattle.rl_book.specs.Calls.{HasExecuted, Rests, Told}
 use Rattle.rl_book.specs.declared.error.UsingError.{UsingError}
 use Rattle.rl_book.specs.declared.error.UsingError.TheVariants as refused
@@ -45,3 +46,19 @@ NotesUsing (Ok done) names old new = (refusal_of old.opening.registered names �
 NotesUsing (Err (refused.Unknown name)) names old new = (refusal_of old.opening.registered names ≡ Some (Unknown name)) × (new ≡ old)
 NotesUsing (Err (refused.Cycle name)) names old new = (refusal_of old.opening.registered names ≡ Some (Cycle name)) × (new ≡ old)
 NotesUsing (Err refused.NoMemory) names old new = new ≡ old
+
+-- ---- load
+
+-- at so many places the name does not resolve
+abbrev pub dropped_of : Booked → List Text → ℕ
+dropped_of b names = count_by (λ name. not (resolves b.opening.registered name)) names
+
+-- each name was requested that resolves, and the other places were counted
+abbrev pub LoadsEach : (Key → Text → Bool) → Result ℕ NoMemory → List Text → Booked → Booked → Told → Told → Type 0
+LoadsEach says (Ok dropped) names old new told told' = (dropped ≡ dropped_of old names) × Serves says (Load names) old new told told' × Rests new
+LoadsEach says (Err error) names old new told told' = StopsShort says (Load names) ⊤ old new told told'
+
+-- where nothing is due the names are noted, or nothing changes
+abbrev pub NotesLoad : Result ℕ NoMemory → List Text → Booked → Booked → Type 0
+NotesLoad (Ok dropped) names old new = (dropped ≡ dropped_of old names) × Notes (Load names) old new
+NotesLoad (Err error) names old new = new ≡ old

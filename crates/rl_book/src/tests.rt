@@ -234,3 +234,23 @@ fn an_embedded_part_executes(rt: HostRuntime) -> Result<(), Fail> {
     assert!(rt; counts(&visit) == (1, 1, 0));
     Ok(())
 }
+
+/// At how many places a name is dropped, of a row and of none.
+fn drops(visit: &mut Visit, names: &[Text], observers: &mut Silent) -> Result<u32, NoMemory> {
+    visit.load(names, observers)
+}
+
+/// Each place of a name that does not resolve is counted.
+#[test]
+fn names_that_are_dropped(rt: HostRuntime) -> Result<(), Fail> {
+    let alloc = rt.alloc();
+    let mut visit = opened(alloc)?;
+    let mut names = Vec::new(alloc);
+    for name in ["x", "b", "x"] {
+        names.push(Text::of(alloc, name)?)?;
+    }
+    let dropped = drops(&mut visit, names.as_slice(), &mut Silent { heard: 0 })?;
+    assert!(rt; dropped == 2);
+    assert!(rt; is_waiting(&visit));
+    Ok(())
+}

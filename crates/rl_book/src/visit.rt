@@ -10,14 +10,14 @@ ghost use Rattle.rl_book_spec.specs.declared.Call.TheVariants.{Take, Lose};
 ghost use Rattle.rl_book.specs.Calls.{ExecutesNext, IsRun, Loses, Refuses, Rests, Resumes, StateIs, Takes, batch_at, due_row, has_waiting};
 ghost use Rattle.rl_book.specs.Calls.{is_answered, is_lost_at, is_settled_at, losses_at, next_ask};
 ghost use Rattle.rl_book.specs.Opens.{Opens};
-ghost use Rattle.rl_book.specs.Serving.{NotesUsing, RequestsAll};
+ghost use Rattle.rl_book.specs.Serving.{LoadsEach, NotesLoad, NotesUsing, RequestsAll};
 
 use crate::answer::{Ask, Lost, Run};
 use crate::error::{LoseRefusal, OpenError, UsingError};
 use crate::given::{Delivered, none_delivered};
 use crate::giving::give_up_at_third;
 use crate::opening::{parts_said, rows_said};
-use crate::requesting::request;
+use crate::requesting::{load, request};
 use crate::running::{first_named, run_with};
 use crate::serving::{copies, make_room};
 use crate::touching::places_of;
@@ -250,6 +250,40 @@ impl Visit {
             },
             Err(error) => Err(error),
         }
+    }
+
+    /// Notes a request of each name that resolves, which nothing executes for yet, and answers how many places were dropped.
+    fn note_load(&mut self, names: &[Text]) -> Result<u32, NoMemory>
+        requires { Rests self.old }
+        ensures { NotesLoad result names.now self.old self.new }
+    {
+        let copies = copies(self.alloc, names)?;
+        make_room(&mut self.calls, &self.requests)?;
+        let dropped = load(
+            self.alloc,
+            &mut self.table,
+            &mut self.requests,
+            &self.plan,
+            self.embedded.as_slice(),
+            self.places.as_slice(),
+            names,
+        )?;
+        let names = Seq::of(copies);
+        self.calls.push_reserved(Call::Load { names });
+        Ok(dropped)
+    }
+
+    /// Requests each of the names that resolves, and answers at how many places the name was dropped. First what was due
+    /// executes, then what the request made due, and the observers are told of each execution before it counts.
+    pub fn load<O: Hears>(&mut self, names: &[Text], observers: &mut O) -> Result<u32, NoMemory>
+        ensures serves { LoadsEach (O.says observers.old) result names.now self.old self.new (O.told observers.old) (O.told observers.new) }
+        ensures fixed { (k : Key) (s : List ℕ) → O.says observers.new k s ≡ O.says observers.old k s }
+        ensures same { (first : O) → O.same first observers.old → O.same first observers.new }
+    {
+        self.resume(observers)?;
+        let dropped = self.note_load(names)?;
+        self.resume(observers)?;
+        Ok(dropped)
     }
 
     /// The execution of a row that was answered with an implementation, before any observer was told of it.
