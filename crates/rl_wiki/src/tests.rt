@@ -74,18 +74,21 @@ fn answered(alloc: Global, wiki: &Wiki, by: &[u8], query: &str) -> Result<String
     Ok(format!(in alloc; "{start}{body}")?)
 }
 
-/// A wiki whose site, Ann and Ben have a script each, and where Ann chose a skin.
-fn edited_wiki(alloc: Global) -> Result<Wiki, Fail> {
-    let mut wiki = Wiki::open(alloc, catalog(alloc)?)?;
+/// The site, Ann and Ben get a script each.
+fn edit_three(alloc: Global, wiki: &mut Wiki) -> Result<(), EditError> {
     for (by, title) in [
         (&b"Root"[..], &b"MediaWiki:Fallback.js"[..]),
         (b"Ann", b"User:Ann/common.js"),
         (b"Ben", b"User:Ben/common.js"),
     ] {
-        let _number = edited(alloc, &mut wiki, by, title, 0)?;
+        let _number = edited(alloc, wiki, by, title, 0)?;
     }
-    let _number = chosen(alloc, &mut wiki, b"Ann")?;
-    Ok(wiki)
+    Ok(())
+}
+
+fn opened_wiki(alloc: Global) -> Result<Wiki, Fail> {
+    let catalog = catalog(alloc)?;
+    Ok(Wiki::open(alloc, catalog)?)
 }
 
 /// Who asks for what, and what they are answered. A module of another user, and the options of any, are spelt as a name
@@ -123,12 +126,24 @@ const ANSWERS: [(&[u8], &str, &str); 6] = [
     ),
 ];
 
+/// Whether each is answered what is wanted.
+fn answers_as_wanted(alloc: Global, wiki: &Wiki) -> Result<bool, Fail> {
+    let mut same = true;
+    for (by, query, want) in &ANSWERS {
+        let body = answered(alloc, wiki, by, query)?;
+        same = same && body.as_str() == *want;
+    }
+    Ok(same)
+}
+
 #[test]
 fn private_and_foreign_modules(rt: HostRuntime) -> Result<(), Fail> {
-    let wiki = edited_wiki(rt.alloc())?;
-    for (by, query, want) in &ANSWERS {
-        assert_eq!(rt; answered(rt.alloc(), &wiki, by, query)?.as_str(), *want);
-    }
+    let mut wiki = opened_wiki(rt.alloc())?;
+    let edited = edit_three(rt.alloc(), &mut wiki);
+    assert!(rt; edited == Ok(()));
+    let answer = chosen(rt.alloc(), &mut wiki, b"Ann");
+    assert!(rt; answer == Ok(4));
+    assert!(rt; answers_as_wanted(rt.alloc(), &wiki)?);
     Ok(())
 }
 
@@ -139,21 +154,25 @@ fn embedded(alloc: Global, wiki: &Wiki, by: &[u8]) -> Result<Text, Fail> {
     Ok(wiki.embed(alloc, &viewer, &ctx)?)
 }
 
+const OF_ANN: &str = "mw.loader.implement(\"user.options@zpsgg\",\
+\"mw.user.options.set({\\\"skin\\\":\\\"vector\\\"});\\n\",{},{});\n";
+
+const OF_BEN: &str = "mw.loader.implement(\"user.options@fie8b\",\
+\"mw.user.options.set({});\\n\",{},{});\n";
+
+/// Whether what is embedded for each is what is wanted.
+fn embeds_as_wanted(alloc: Global, wiki: &Wiki) -> Result<bool, Fail> {
+    let ann = embedded(alloc, wiki, b"Ann")?;
+    let ben = embedded(alloc, wiki, b"Ben")?;
+    Ok(ann.as_str() == OF_ANN && ben.as_str() == OF_BEN)
+}
+
 #[test]
 fn options_of_the_viewer(rt: HostRuntime) -> Result<(), Fail> {
-    let wiki = edited_wiki(rt.alloc())?;
-    let ann = embedded(rt.alloc(), &wiki, b"Ann")?;
-    assert_eq!(rt;
-        ann.as_str(),
-        "mw.loader.implement(\"user.options@zpsgg\",\
-\"mw.user.options.set({\\\"skin\\\":\\\"vector\\\"});\\n\",{},{});\n"
-    );
-    let ben = embedded(rt.alloc(), &wiki, b"Ben")?;
-    assert_eq!(rt;
-        ben.as_str(),
-        "mw.loader.implement(\"user.options@fie8b\",\
-\"mw.user.options.set({});\\n\",{},{});\n"
-    );
+    let mut wiki = opened_wiki(rt.alloc())?;
+    let answer = chosen(rt.alloc(), &mut wiki, b"Ann");
+    assert!(rt; answer == Ok(1));
+    assert!(rt; embeds_as_wanted(rt.alloc(), &wiki)?);
     Ok(())
 }
 
@@ -279,16 +298,18 @@ fn startup_of_desk(alloc: Global, desk: &Desk<MemKeeper>) -> Result<Text, NoMemo
     desk.startup(alloc, &Viewer::Anon, &ctx)
 }
 
+/// Whether a wiki and a desk give one startup text, which begins with the sources.
+fn starts_as_wanted(alloc: Global, wiki: &Wiki, desk: &Desk<MemKeeper>) -> Result<bool, Fail> {
+    let text = startup_of_wiki(alloc, wiki)?;
+    let other = startup_of_desk(alloc, desk)?;
+    Ok(text.as_str().starts_with(SOURCES) && other.as_str() == text.as_str())
+}
+
 #[test]
 fn startup_texts(rt: HostRuntime) -> Result<(), Fail> {
+    let wiki = opened_wiki(rt.alloc())?;
     let alloc = rt.alloc();
-    let wiki = Wiki::open(alloc, catalog(alloc)?)?;
-    let text = startup_of_wiki(alloc, &wiki)?;
-    assert!(rt; text.as_str().starts_with(SOURCES));
-    let desk = opened(alloc, Vec::new(alloc), Vec::new(alloc))
-        .ok()
-        .ok_or("a desk")?;
-    let other = startup_of_desk(alloc, &desk)?;
-    assert_eq!(rt; other.as_str(), text.as_str());
+    let desk = opened(alloc, Vec::new(alloc), Vec::new(alloc))?;
+    assert!(rt; starts_as_wanted(alloc, &wiki, &desk)?);
     Ok(())
 }
