@@ -7,7 +7,7 @@ use crate::modules::{Module, rows_of};
 use crate::{rows, startup_text};
 use rl_build::{Context, Sheet};
 use rl_defs::Catalog;
-use rl_names::{Name, NoMemory, Row, Seq, Source, Text, Version};
+use rl_names::{Name, NoMemory, Seq, Source, Text, Version};
 use rl_pages::{Pages, Viewer};
 use rl_wire::{Startup, write_startup};
 use std::alloc::Global;
@@ -135,29 +135,32 @@ dependencies = ["c"]
 [modules.c]
 "#;
 
-fn rows_of_three(alloc: Global, catalog: &Catalog) -> Result<Vec<Row>, NoMemory> {
-    let pages = Pages::empty(alloc)?;
-    let ctx = Context::read(alloc, catalog, b"en", b"vector", false)?;
-    rows(alloc, catalog, &pages, &Viewer::Anon, &ctx)
+fn context(alloc: Global, catalog: &Catalog) -> Result<Context, NoMemory> {
+    Context::read(alloc, catalog, b"en", b"vector", false)
 }
 
-fn text_of_three(alloc: Global, catalog: &Catalog) -> Result<Text, NoMemory> {
+/// How many dependencies the first row has.
+fn needs_of_first(alloc: Global, catalog: &Catalog) -> Result<usize, NoMemory> {
     let pages = Pages::empty(alloc)?;
-    let ctx = Context::read(alloc, catalog, b"en", b"vector", false)?;
+    let ctx = context(alloc, catalog)?;
+    let rows = rows(alloc, catalog, &pages, &Viewer::Anon, &ctx)?;
+    Ok(rows.first().map_or(0, |row| row.deps.as_slice().len()))
+}
+
+fn text_of(alloc: Global, catalog: &Catalog) -> Result<Text, NoMemory> {
+    let pages = Pages::empty(alloc)?;
+    let ctx = context(alloc, catalog)?;
     startup_text(alloc, catalog, &pages, &Viewer::Anon, &ctx)
 }
+
+/// `c`, which `b` brings, is left out of what `a` needs.
+const STARTUP_OF_THREE: &str =
+    "mw.loader.addSource({\"local\":\"/load.php\"});\nmw.loader.register([[\"a\",\"96okj\",[1]],[\"b\",\"wn61g\",[2]],[\"c\",\"186z7\"],[\"site\",\"186z7\",[4]],[\"site.styles\",\"186z7\",[],2],[\"user\",\"186z7\",[],0],[\"user.options\",\"\",[],1],[\"user.styles\",\"186z7\",[],0]]);\n";
 
 #[test]
 fn startup_of_three(rt: HostRuntime) -> Result<(), Fail> {
     let catalog = Catalog::read(rt.alloc(), THREE.as_bytes())?;
-    let rows = rows_of_three(rt.alloc(), &catalog)?;
-    let first = rows.first().ok_or("no row")?;
-    assert_eq!(rt; first.deps.as_slice().len(), 2);
-    let text = text_of_three(rt.alloc(), &catalog)?;
-    assert!(rt;
-        text.as_str().starts_with(
-            "mw.loader.addSource({\"local\":\"/load.php\"});\nmw.loader.register([[\"a\",\"96okj\",[1]],[\"b\",\"wn61g\",[2]],[\"c\",\"186z7\"]"
-        )
-    );
+    assert_eq!(rt; needs_of_first(rt.alloc(), &catalog)?, 2);
+    assert_eq!(rt; text_of(rt.alloc(), &catalog)?.as_str(), STARTUP_OF_THREE);
     Ok(())
 }
