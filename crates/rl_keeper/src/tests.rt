@@ -5,9 +5,8 @@ use rl_names::{Blob, Text, Title};
 use rl_pages::Entry;
 use sqlite::{Alter, Connection};
 use std::alloc::Global;
-use std::env;
-use std::fs;
 use std::test::Fail;
+use std::{env, fs};
 
 fn edit(alloc: Global, by: &str, title: &str, text: &str) -> Result<Entry, Fail> {
     Ok(Entry::Edit {
