@@ -186,20 +186,33 @@ fn a_record_of_another_kind(rt: HostRuntime) -> Result<(), Fail> {
     Ok(())
 }
 
+/// Whether a database in a new file tells the two edits that it is to keep.
+fn kept_in(rt: &HostRuntime, file: &str) -> Result<bool, Fail> {
+    let db = Connection::open(rt, file)?;
+    let mut keeper = SqlKeeper::over(rt.alloc(), db)?;
+    let told = two_edits(rt.alloc(), &mut keeper)?;
+    keeper.db.close()?;
+    Ok(told.as_str() == KEPT)
+}
+
+/// Whether it tells them when it is opened again, without a fault.
+fn kept_again(rt: &HostRuntime, file: &str) -> Result<bool, Fail> {
+    let db = Connection::open(rt, file)?;
+    let mut keeper = SqlKeeper::over(rt.alloc(), db)?;
+    let told = kept(rt.alloc(), &mut keeper)?;
+    let faults = keeper.fault_count();
+    keeper.db.close()?;
+    Ok(told.as_str() == KEPT && faults == 0)
+}
+
 #[test]
 fn a_database_in_a_file(rt: HostRuntime) -> Result<(), Fail> {
-    let alloc = rt.alloc();
     // The folder of this run alone: in a shared one a file of another user's could lie in the way.
     let folder = env::temp_dir(&rt)?;
-    let file = format!(in alloc; "{}/rl_keeper_two_edits.db", folder.as_str())?;
+    let file = format!(in rt.alloc(); "{}/rl_keeper_two_edits.db", folder.as_str())?;
     let _ = fs::remove_file(&rt, file.as_str());
-    let mut keeper = SqlKeeper::over(alloc, Connection::open(&rt, file.as_str())?)?;
-    assert_eq!(rt; two_edits(alloc, &mut keeper)?.as_str(), KEPT);
-    keeper.db.close()?;
-    let mut again = SqlKeeper::over(alloc, Connection::open(&rt, file.as_str())?)?;
-    assert_eq!(rt; again.fault_count(), 0);
-    assert_eq!(rt; kept(alloc, &mut again)?.as_str(), KEPT);
-    again.db.close()?;
+    assert!(rt; kept_in(&rt, file.as_str())?);
+    assert!(rt; kept_again(&rt, file.as_str())?);
     let _ = fs::remove_file(&rt, file.as_str());
     Ok(())
 }
