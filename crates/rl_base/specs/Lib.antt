@@ -1,4 +1,5 @@
 pub mod Causes
+pub mod Connection
 pub mod Execution
 pub mod Files
 pub mod Memory

@@ -47,7 +47,7 @@ impl<R: Files> DirTree<R> {
 }
 
 /// The first `max` bytes that a reader gives.
-pub fn read_front<F: Read + Drop>(reader: F, alloc: Global, max: u64) -> io::Result<Vec<u8>>
+pub(crate) fn read_front<F: Read + Drop>(reader: F, alloc: Global, max: u64) -> io::Result<Vec<u8>>
     ensures front { IfOk result (λ bytes. IfSome (F.remaining reader) (λ left. bytes.items ≡ take max left)) }
     ensures most { IfOk result (λ bytes. length bytes.items ≤ max) }
 {

@@ -1,5 +1,5 @@
 //! The observer that keeps what it is told.
-ghost use Rattle.std.specs.Prelude.{◌≡◌, ◌-◌, ◌^◌, ◌<◌, [], None, IfOk, IfSome, length, min, slice_get, bytes_eq};
+ghost use Rattle.std.specs.Prelude.{◌≡◌, ◌-◌, ◌^◌, ◌<◌, [], None, Some, IfOk, IfSome, length, min, option_map, slice_get, bytes_eq};
 ghost use Rattle.rl_base.specs.Recorded.{throws_in};
 
 use crate::observer::Observer;
@@ -90,7 +90,10 @@ impl Observer for Recorder {
         threw
     }
 
-    fn recorder(&self) -> Option<&Recorder> {
+    fn recorder(&self) -> Option<&Recorder>
+        ensures ran { IfSome result (λ recorder. recorder.now.ran ≡ self.now.ran) }
+        ensures itself { option_map (λ recorder. recorder.now) result ≡ Some self.now }
+    {
         Some(self)
     }
 }

@@ -1,11 +1,14 @@
-//! What the real forms hand on of a reader and a writer that go byte by byte, and what a recorder is told.
+//! What the real forms hand on of a reader and a writer that go byte by byte, what a recorder is told, and a
+//! connection in memory.
 
+use crate::conn::{Conn, ConnError};
 use crate::fault::{Faults, Reason};
+use crate::mem_conn::MemConn;
 use crate::observer::Observer;
 use crate::real::{hand, read_front};
 use crate::recorder::Recorder;
 use crate::sink::SinkError;
-use rl_names::{Key, Name};
+use rl_names::{Blob, Key, Name};
 use std::io;
 use std::io::{ErrorKind, Read, Write};
 use std::test::Fail;
@@ -89,5 +92,23 @@ fn a_recorder_is_told(rt: HostRuntime) -> Result<(), Fail> {
     recorder.make_room(&key, b"b()")?;
     assert!(rt; recorder.execute(&key, b"b()"));
     assert_eq!(rt; recorder.count(), 1);
+    Ok(())
+}
+
+/// It gives and takes at most so many bytes a call, and a failing call leaves both sides.
+#[test]
+fn a_connection_in_pieces(rt: HostRuntime) -> Result<(), Fail> {
+    let alloc = rt.alloc();
+    let input = Blob::of(alloc, b"abc")?;
+    let failing = vec![in alloc; 1u64]?;
+    let mut conn = MemConn::in_pieces(alloc, input, 2, failing)?;
+    let mut room = [0u8; 4];
+    assert_eq!(rt; conn.read(&mut room), Ok(2));
+    assert_eq!(rt; &room[..2], b"ab".as_slice());
+    assert_eq!(rt; conn.read(&mut room), Err(ConnError::Failed));
+    assert_eq!(rt; conn.read(&mut room), Ok(1));
+    assert_eq!(rt; conn.read(&mut room), Ok(0));
+    assert_eq!(rt; conn.write(b"xyz"), Ok(2));
+    assert_eq!(rt; conn.written(), b"xy".as_slice());
     Ok(())
 }
