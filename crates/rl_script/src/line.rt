@@ -15,7 +15,7 @@ use serde_json::Value;
 use std::alloc::Global;
 
 /// The text that a string is.
-fn text_in(value: Value) -> Option<Text>
+pub fn text_in(value: Value) -> Option<Text>
     ensures { result ≡ as_str (view value) }
 {
     match value {
@@ -41,7 +41,7 @@ fn texts_of(alloc: Global, values: Vec<Value>) -> Result<Option<Vec<Text>>, NoMe
 }
 
 /// The texts of a list of strings.
-fn texts_in(alloc: Global, value: Value) -> Result<Option<Vec<Text>>, NoMemory>
+pub fn texts_in(alloc: Global, value: Value) -> Result<Option<Vec<Text>>, NoMemory>
     ensures { IfOk result (λ texts. option_map (λ v. v.items) texts ≡ texts_in (view value)) }
 {
     match value {
@@ -199,7 +199,7 @@ fn row_line(alloc: Global, members: &[Value]) -> Result<Option<Line>, NoMemory>
 // ---- features and steps
 
 /// The texts of a list of strings that stands alone.
-fn only_texts(alloc: Global, members: Vec<Value>) -> Result<Option<Vec<Text>>, NoMemory>
+pub fn only_texts(alloc: Global, members: Vec<Value>) -> Result<Option<Vec<Text>>, NoMemory>
     ensures { IfOk result (λ texts. option_map (λ v. v.items) texts ≡ only_texts (map view members.items)) }
 {
     let mut members = members.into_iter();
@@ -332,7 +332,7 @@ fn members_line(alloc: Global, mut members: Vec<Value>) -> Result<Option<Line>, 
 }
 
 /// The members of an array.
-fn members_in(value: Value) -> Option<Vec<Value>>
+pub fn members_in(value: Value) -> Option<Vec<Value>>
     ensures { option_map (λ v. items_view v.items) result ≡ as_array (view value) }
 {
     match value {

@@ -80,14 +80,14 @@ impl Script {
 }
 
 /// A line without one carriage return at its end.
-fn trimmed(line: &str) -> &str
+pub fn trimmed(line: &str) -> &str
     ensures { result.now ≡ trimmed line.now }
 {
     line.strip_suffix('\r').unwrap_or(line)
 }
 
 /// Whether a line says nothing.
-fn is_ignored(line: &str) -> bool
+pub fn is_ignored(line: &str) -> bool
     ensures { result ≡ is_ignored line.now }
 {
     line.is_empty() || line.starts_with('#')

@@ -1,0 +1,3 @@
+pub mod UsersLemmas
+pub mod LinesLemmas
+pub mod ConcludingLemmas

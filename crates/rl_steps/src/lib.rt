@@ -1,0 +1,10 @@
+//! The steps of both ends of a wiki, edits and what a page does: reading scripts of them, and writing them.
+#![tactic(auto)]
+
+mod line;
+mod script;
+mod step;
+
+pub use rl_script::ScriptError;
+pub use script::{Kinds, read_script};
+pub use step::{CLOCK_END, Step};
