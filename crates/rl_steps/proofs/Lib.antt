@@ -1,3 +1,5 @@
 pub mod UsersLemmas
 pub mod LinesLemmas
 pub mod ConcludingLemmas
+pub mod WrittenLemmas
+pub mod SpellingLemmas
