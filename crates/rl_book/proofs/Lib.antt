@@ -1,3 +1,4 @@
+pub mod AnswerLemmas
 pub mod AskedLemmas
 pub mod AskingLemmas
 pub mod CallsLemmas
@@ -14,6 +15,7 @@ pub mod OpeningLemmas
 pub mod OthersLemmas
 pub mod PartsLemmas
 pub mod RanLemmas
+pub mod RefusalLemmas
 pub mod RequestingLemmas
 pub mod SeenLemmas
 pub mod ServingLemmas

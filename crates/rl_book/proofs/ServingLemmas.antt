@@ -22,11 +22,12 @@ use Rattle.rl_book_spec.specs.declared.Call.TheVariants.{Using}
 use Rattle.rl_book_spec.proofs.StageLemmas.{stage_begins, stage_ends}
 use Rattle.rl_book.specs.Asking.{Touched}
 use Rattle.rl_book.specs.Calls.{HasExecuted, Rests, Told, due_row}
-use Rattle.rl_book.specs.Kept.{IsKept, booked, rows_said}
+use Rattle.rl_book.specs.Kept.{IsKept, KeepsParts, booked, rows_said}
 use Rattle.rl_book.specs.Requesting.{ArePlaces, firsts_of}
 use Rattle.rl_book.specs.Serving.{NotesUsing, RequestsAll, Serves, with_call}
 use Rattle.rl_book.specs.declared.error.UsingError.{UsingError}
 use Rattle.rl_book.specs.declared.error.UsingError.TheVariants as refused
+use Rattle.rl_book.specs.declared.given.Delivered.{Delivered}
 use Rattle.rl_book.specs.declared.visit.Visit.TheInside.{Inside}
 use Rattle.rl_book.proofs.AskingLemmas.{Follows, using_follows}
 use Rattle.rl_book.proofs.NotedLemmas.{noted, open_at_most, still_kept}
@@ -62,7 +63,25 @@ module _ (i : Inside) (b : Booked) (k : IsKept i) (view : booked i ≡ b) (rests
   pub seen_all : HasSeen (view_in (booked i)) (events_in (booked i)) (log_of (view_in (booked i)) (events_in (booked i))) i.table
   seen_all = subst (λ (log : List ℕ). HasSeen (view_in (booked i)) (events_in (booked i)) log i.table) log_is k.seen
 
-  -- a call is noted, for which the table and the traffic are as they follow
+  -- a call is noted, for which the table, the parts that rows took, and the traffic are as they follow
+  pub noted_kept : (call : Call) (table : Progress) (delivered : Vec (Option Delivered) Global) (requests : Traffic) (calls : Vec Call Global)
+      → Follows (threw_in (booked i).opening.registered (booked i).ran) (booked i).opening (booked i).past call table requests
+      → KeepsParts (booked i).opening (call ∷ (booked i).past) delivered.items → open_count requests.asks ≡ open_count i.requests.asks
+      → calls.items ≡ i.calls.items ++ call ∷ [] → length i.calls.items + length i.requests.asks + 2 < 2 ^ 32
+      → length i.calls.items + length i.requests.asks + 2 ≤ vec_capacity calls
+      → IsKept (record i { table = table; delivered = delivered; requests = requests; calls = calls })
+  noted_kept call table delivered requests calls follows keeps same grown few room =
+      let v : View = view_in (booked i) in
+      let past : List Event = events_in (booked i) in
+      let event : Event = event_of (booked i).opening (booked i).past call in
+      let long = ap length grown ∙ length-append i.calls.items (call ∷ []) in
+      let most = open_at_most i.requests.asks in
+      noted i call table delivered requests calls k grown (stage_begins v event past (rows_run (booked i)) k.book.stage end)
+      (subst (λ (log : List ℕ). HasSeen v (event ∷ past) log table) (sym log_is) follows.due)
+      keeps (follows.traffic ∙ ap (traffic_after (booked i).opening (booked i).past call) (sym k.requests))
+      (omega (arith, long, most, same, few)) (omega (arith, long, most, same, room))
+
+  -- and no row took a part
   pub served_kept : (call : Call) (table : Progress) (requests : Traffic) (calls : Vec Call Global)
       → Follows (threw_in (booked i).opening.registered (booked i).ran) (booked i).opening (booked i).past call table requests
       → GivesAtTouch (booked i).opening call → open_count requests.asks ≡ open_count i.requests.asks
@@ -70,16 +89,8 @@ module _ (i : Inside) (b : Booked) (k : IsKept i) (view : booked i ≡ b) (rests
       → length i.calls.items + length i.requests.asks + 2 ≤ vec_capacity calls
       → IsKept (record i { table = table; requests = requests; calls = calls })
   served_kept call table requests calls follows gives same grown few room =
-      let v : View = view_in (booked i) in
-      let past : List Event = events_in (booked i) in
-      let event : Event = event_of (booked i).opening (booked i).past call in
-      let long = ap length grown ∙ length-append i.calls.items (call ∷ []) in
-      let most = open_at_most i.requests.asks in
-      noted i call table i.delivered requests calls k grown (stage_begins v event past (rows_run (booked i)) k.book.stage end)
-      (subst (λ (log : List ℕ). HasSeen v (event ∷ past) log table) (sym log_is) follows.due)
-      (parts_stay (booked i).opening (booked i).past call i.delivered.items gives k.parts)
-      (follows.traffic ∙ ap (traffic_after (booked i).opening (booked i).past call) (sym k.requests))
-      (omega (arith, long, most, same, few)) (omega (arith, long, most, same, room))
+      noted_kept call table i.delivered requests calls follows (parts_stay (booked i).opening (booked i).past call i.delivered.items gives k.parts)
+      same grown few room
 
   pub using_kept : (names : List Text) (table : Progress) (requests : Traffic) (calls : Vec Call Global)
       → refusal_of i.table.registered names ≡ None

@@ -2,37 +2,28 @@
 use Rattle.std.proofs.Common.{◌≡◌, ℕ, ◌<◌, true, false, Option, Some, None, length, get_or, refl, ap, ap₂, sym, subst, ◌∙◌, arith}
 use Rattle.std.specs.Prelude.{IfOk, slice_get, Result, Ok, Err}
 use Rattle.std.proofs.lemmas.Option.{slice_get-get_or}
-use Rattle.rl_names.specs.declared.row.Row.{Row}
 use Rattle.rl_view_spec.specs.Closure.{Text, Registered}
 use Rattle.rl_view_spec.specs.Progress.{name_at}
 use Rattle.rl_view_spec.specs.View.{is_implementation}
 use Rattle.rl_view_spec.proofs.PlacesLemmas.{name_there}
-use Rattle.rl_view.proofs.NowLemmas.{alike_now}
-use Rattle.rl_view.proofs.ReadingsLemmas.{registered_seen}
+use Rattle.rl_view_spec.proofs.ToolsLemmas.{place_there}
 use Rattle.rl_wire.specs.declared.part.Part.{Part}
-use Rattle.rl_book_spec.specs.Kept.{Booked, events_in, rows_run, view_in}
+use Rattle.rl_book_spec.specs.Kept.{Booked}
 use Rattle.rl_book_spec.specs.Opening.{answer_of, part_of}
 use Rattle.rl_book_spec.specs.declared.Origin.{Origin}
 use Rattle.rl_book_spec.specs.declared.Origin.TheVariants as origin
 use Rattle.rl_book.specs.Calls.{Executing, IsRun, is_answered}
 use Rattle.rl_book.specs.Kept.{IsKept, KeepsPart, booked}
+use Rattle.rl_book.specs.Requesting.{part_at}
 use Rattle.rl_book.specs.declared.answer.Run.{Run}
 use Rattle.rl_book.specs.declared.given.Delivered.{Delivered}
 use Rattle.rl_book.specs.declared.visit.Visit.TheInside.{Inside}
 use Rattle.rl_book.proofs.GivenLemmas.{IsEmbedded, WasGiven, embedded_is, executing_runs, taken_is, was_given}
+use Rattle.rl_book.proofs.RequestingLemmas.{part_there}
 
 pub if_ok : {T E : Type 0} (P Q : T → Type 0) (r : Result T E) → ((x : T) → P x → Q x) → IfOk r P → IfOk r Q
 if_ok P Q (Ok x) f p = f x p
 if_ok P Q (Err e) f p = tt
-
--- a row has its name by now
-named_here : (i : Inside) (row : ℕ) (found : Row) → IsKept i → slice_get i.table.registered.rows row ≡ Some found
-    → found.name ≡ name_at (booked i).opening.registered row
-named_here i row found k there =
-    let b : Booked = booked i in
-    sym (name_there i.table.registered row found there)
-    ∙ ap (λ (r : Registered). name_at r row) (registered_seen (view_in b) (events_in b) (rows_run b) i.table k.seen)
-    ∙ (alike_now (view_in b) (events_in b)).names row
 
 -- what is kept for a row stands at its place
 pub kept_there : (i : Inside) (b : Booked) (row : ℕ) (kept : Option Delivered) → IsKept i → booked i ≡ b → row < length b.opening.registered.rows
@@ -72,13 +63,17 @@ module _ (i : Inside) (b : Booked) (row : ℕ) (kept : Option Delivered) (k : Is
     pub taken_runs : (run : Run) → Executing row taken.part (origin.Wire taken.mark) run → (run.threw ≡ false) × IsRun b (row, false) run
     taken_runs = run_here taken.part (origin.Wire taken.mark) taken_here
 
-  module _ (found : Row) (part : Option Part) (e : kept ≡ None) (at : slice_get i.table.registered.rows row ≡ Some found)
-      (is : part ≡ part_of i.embedded.items found.name) where
+  module _ (part : Option Part) (e : kept ≡ None) (low : row < length b.opening.registered.rows)
+      (is : part ≡ part_at i.embedded.items i.places.items row) where
     embedded_here : IsEmbedded (booked i).opening name given_here.given
     embedded_here = embedded_is (booked i).opening (booked i).past name kept given_here refl kept_here e
 
     part_here : part ≡ Some given_here.given.0
-    part_here = is ∙ ap (part_of i.embedded.items) (named_here i row found k at) ∙ embedded_here.part
+    part_here =
+        let r : Registered = (booked i).opening.registered in
+        let m = place_there r.rows row (subst (λ (b : Booked). row < length b.opening.registered.rows) (sym view) low) in
+        is ∙ part_there r i.embedded.items i.places.items row m.0 k.places m.1 ∙ ap (part_of i.embedded.items) (sym (name_there r row m.0 m.1))
+        ∙ embedded_here.part
 
     pub embedded_there : part ≡ None → ⊥
     embedded_there none = let s : None ≡ Some given_here.given.0 = sym none ∙ part_here in cc

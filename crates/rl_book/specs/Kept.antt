@@ -1,6 +1,6 @@
 -- What a view keeps, and what it is of its history.
 use Rattle.std.specs.Prelude.{◌≡◌, ◌+◌, ◌≤◌, ◌<◌, ◌^◌, ℕ, List, if◌then◌else◌, fold, length, map, nat_lt, option_and_then, reverse, slice_get}
-use Rattle.std.specs.Prelude.{vec_capacity, Option, Some, None, Result, Ok, Err, []}
+use Rattle.std.specs.Prelude.{vec_capacity, Bool, Option, Some, None, Result, Ok, Err, [], false}
 use Rattle.std.specs.Option.{option_map_or}
 use Rattle.rl_names.specs.declared.row.Row.{Row}
 use Rattle.rl_view_spec.specs.Closure.{Text, row_of}
@@ -16,7 +16,7 @@ use Rattle.rl_batch.specs.Requests.{open_count}
 use Rattle.rl_book_spec.specs.Given.{given_at_touch, given_to}
 use Rattle.rl_book_spec.specs.Kept.{Booked, IsBook, events_in, rows_run, traffic_in, view_in}
 use Rattle.rl_book_spec.specs.Opening.{Opening}
-use Rattle.rl_book_spec.specs.Traffic.{Traffic, asked_of}
+use Rattle.rl_book_spec.specs.Traffic.{Traffic, asked_of, may_be_lost}
 use Rattle.rl_book_spec.specs.declared.Call.{Call}
 use Rattle.rl_book_spec.specs.declared.Origin.{Origin}
 use Rattle.rl_book_spec.specs.declared.Origin.TheVariants as origin
@@ -91,3 +91,11 @@ after_giving_up rows t = fold (λ progress row. seen.given_to row (Some GivenUp)
 abbrev pub after_third : Traffic → ℕ → Progress → Progress
 after_third t ask progress =
     option_map_or (λ pair. if nat_lt 1 pair.1.losses then after_giving_up pair.1.batch.rows progress else progress) (asked_of t ask) progress
+
+-- an ask that may be lost
+abbrev pub may_be_lost_at : Traffic → ℕ → Bool
+may_be_lost_at t ask = option_map_or may_be_lost (asked_of t ask) false
+
+-- what is no answer counts as a loss where the ask may be lost
+abbrev pub after_refusal : Traffic → ℕ → Progress → Progress
+after_refusal t ask progress = if may_be_lost_at t ask then after_third t ask progress else progress

@@ -86,6 +86,29 @@ impl From<NoMemory> for UsingError {
     }
 }
 
+/// Why an answer is not taken.
+#[derive(Clone, Copy, Debug, PartialEq, Eq, Error)]
+pub enum DeliverError {
+    /// There are only so many asks.
+    #[error("there is no ask {ask}")]
+    NoSuchAsk { ask: u32, asks: u32 },
+    /// The first bad line of the answer. So many asks of its batch are lost by now.
+    #[error("line {line} of the answer is bad")]
+    BadWire { line: u32, tries: u32 },
+    #[error("out of memory")]
+    NoMemory,
+}
+
+impl From<NoMemory> for DeliverError {
+    ghost use Rattle.rl_book.specs.declared.error.DeliverError.TheVariants.{NoMemory};
+
+    ghost from_gives = { λ _ e. e ≡ NoMemory };
+
+    fn from(_error: NoMemory) -> Self {
+        DeliverError::NoMemory
+    }
+}
+
 /// Why an ask is not lost.
 #[derive(Clone, Copy, Debug, PartialEq, Eq, Error)]
 pub enum LoseRefusal {

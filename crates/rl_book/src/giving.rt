@@ -5,11 +5,15 @@ ghost use Rattle.rl_view.specs.Seen.{given_to};
 ghost use Rattle.rl_book_spec.specs.Traffic.{asked_of};
 ghost use Rattle.rl_book_spec.specs.declared.Asked.{Asked};
 ghost use Rattle.rl_book_spec.specs.declared.Sent.{Sent};
-ghost use Rattle.rl_book.specs.Kept.{after_giving_up, after_third};
+ghost use Rattle.rl_book_spec.specs.Traffic.{after_loss};
+ghost use Rattle.rl_book.specs.Calls.{losses_at};
+ghost use Rattle.rl_book.specs.Kept.{after_giving_up, after_refusal, after_third, may_be_lost_at};
 
 use rl_batch::Requests;
+use rl_batch::requests::is_settled;
 use rl_states::{Outcome, Steps, Table};
 use rl_view::counts;
+use std::marker::Brand;
 use std::sync::ledger::{Blank, Ledger};
 
 /// Gives up a row, where that counts.
@@ -59,5 +63,39 @@ pub(crate) fn give_up_at_third<L: Ledger>(
         if sent.losses > 1 {
             give_up::<L>(table, sent.batch.rows.as_slice(), blank);
         }
+    }
+}
+
+/// Whether an ask may be lost: it was not, and its batch is not settled.
+fn is_open(requests: &Requests, ask: u32) -> bool
+    ensures { result ≡ may_be_lost_at requests.now ask }
+{
+    match requests.asked(ask) {
+        Some((asked, sent)) => !asked.lost && !is_settled(sent),
+        None => false,
+    }
+}
+
+/// Counts the loss of an ask, where it may be lost. The third of a batch gives up the rows that it asks for.
+pub(crate) fn lose_open(table: &mut Table, requests: &mut Requests, ask: u32)
+    requires within { (pair : Asked × Sent) → asked_of requests.old ask ≡ Some pair
+        → All (λ row. row < length table.old.registered.rows) pair.1.batch.rows }
+    requires idle { table.old.executing ≡ None }
+    ensures table { table.new ≡ after_refusal requests.old ask table.old }
+    ensures requests { requests.new ≡ after_loss requests.old ask }
+{
+    if is_open(requests, ask) {
+        give_up_at_third::<Brand>(table, requests, ask, Blank::new(1));
+        requests.lose(ask);
+    }
+}
+
+/// How many asks of the batch of this one were lost.
+pub(crate) fn losses_of(requests: &Requests, ask: u32) -> u32
+    ensures { result ≡ losses_at requests.now ask }
+{
+    match requests.asked(ask) {
+        Some((_, sent)) => sent.losses,
+        None => 0,
     }
 }

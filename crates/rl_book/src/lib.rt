@@ -16,6 +16,6 @@ mod touching;
 pub mod visit;
 
 pub use answer::{Ask, Lost, Run};
-pub use error::{LoseRefusal, OpenError, UsingError};
+pub use error::{DeliverError, LoseRefusal, OpenError, UsingError};
 pub use rl_book_spec::{Call, Mark, Origin, Plan, Took};
 pub use visit::Visit;

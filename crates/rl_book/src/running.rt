@@ -1,21 +1,13 @@
 //! What executes for a row.
-ghost use Rattle.std.specs.Prelude.{◌≡◌, false, IfOk, IsTrue, Some, option_map};
+ghost use Rattle.std.specs.Prelude.{IfOk, IsTrue, Some};
 ghost use Rattle.rl_view_spec.specs.View.{is_implementation};
-ghost use Rattle.rl_book_spec.specs.Opening.{answer_of, part_of};
+ghost use Rattle.rl_book_spec.specs.Opening.{answer_of};
 ghost use Rattle.rl_book.specs.Calls.{Executing};
 
 use crate::answer::Run;
-use crate::touching::name_of;
 use rl_book_spec::Origin;
 use rl_names::{Key, NoMemory};
 use rl_wire::Part;
-
-/// The first part of a name.
-pub(crate) fn first_named<'a>(parts: &'a [Part], name: &[u8]) -> Option<&'a Part>
-    ensures { option_map (λ part. part.now) result ≡ part_of parts.now name.now }
-{
-    parts.iter().find(|part| name_of(part) == name)
-}
 
 /// The execution of a row that was answered with this part, an implementation, before any observer was told of it.
 pub(crate) fn run_with(row: u32, part: &Part, origin: Origin) -> Result<Run, NoMemory>

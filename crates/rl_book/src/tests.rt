@@ -2,7 +2,7 @@
 ghost use Rattle.std.specs.Prelude.{IfOk};
 ghost use Rattle.rl_batch.specs.Given.{IsBase};
 
-use crate::{LoseRefusal, OpenError, Plan, Visit};
+use crate::{DeliverError, LoseRefusal, Lost, Mark, OpenError, Plan, Took, Visit};
 use rl_base::Hears;
 use rl_names::{Blob, Key, NoMemory, Only, Query, Seq, Text};
 use rl_states::Phase;
@@ -252,5 +252,96 @@ fn names_that_are_dropped(rt: HostRuntime) -> Result<(), Fail> {
     let dropped = drops(&mut visit, names.as_slice(), &mut Silent { heard: 0 })?;
     assert!(rt; dropped == 2);
     assert!(rt; is_waiting(&visit));
+    Ok(())
+}
+
+/// Whether a batch is asked for.
+fn takes(visit: &mut Visit) -> bool {
+    match visit.take() {
+        Ok(ask) => ask.is_some(),
+        Err(NoMemory) => false,
+    }
+}
+
+/// Whether the delivery of these bytes to an ask is answered so.
+fn delivers(
+    visit: &mut Visit,
+    ask: u32,
+    bytes: &str,
+    want: Result<Took, DeliverError>,
+    observers: &mut Silent,
+) -> bool {
+    let mark = Mark { link: 0, answer: 7 };
+    visit.deliver(ask, bytes.as_bytes(), mark, observers) == want
+}
+
+/// Whether the loss of an ask is answered so.
+fn loses(visit: &mut Visit, ask: u32, want: Result<Lost, LoseRefusal>) -> bool {
+    visit.lose(ask, None) == want
+}
+
+const PART: &str = "mw.loader.implement(\"b@96okj\",\"b()\\n\",{},{});\n";
+
+fn used(used: u32, passed: u32) -> Result<Took, DeliverError> {
+    Ok(Took { used, passed })
+}
+
+/// A view that asked for `b` once.
+fn asked(alloc: Global, observers: &mut Silent) -> Result<Visit, Fail> {
+    let mut visit = opened(alloc)?;
+    let name = Text::of(alloc, "b")?;
+    if !uses(&mut visit, name, observers) || !takes(&mut visit) {
+        return Err("a request")?;
+    }
+    Ok(visit)
+}
+
+/// What is delivered executes, once.
+#[test]
+fn an_answer_executes(rt: HostRuntime) -> Result<(), Fail> {
+    let mut observers = Silent { heard: 0 };
+    let mut visit = asked(rt.alloc(), &mut observers)?;
+    assert!(rt; delivers(&mut visit, 0, PART, used(1, 0), &mut observers));
+    assert!(rt; delivers(&mut visit, 0, PART, used(0, 1), &mut observers));
+    assert!(rt; observers.heard == 1);
+    assert!(rt; is_settled(&visit));
+    assert_eq!(rt; state_of(&visit, b"b"), Some(Phase::Ready));
+    Ok(())
+}
+
+/// What is no answer counts as a loss of its ask, once. The third loss gives the batch up, and what comes late is passed
+/// over.
+#[test]
+fn losses_and_refusals(rt: HostRuntime) -> Result<(), Fail> {
+    let mut observers = Silent { heard: 0 };
+    let mut visit = asked(rt.alloc(), &mut observers)?;
+    let bad = |tries| Err(DeliverError::BadWire { line: 1, tries });
+    assert!(rt; delivers(&mut visit, 0, "x", bad(1), &mut observers));
+    assert!(rt; loses(&mut visit, 0, Err(LoseRefusal::LostBefore { ask: 0 })));
+    assert!(rt; delivers(&mut visit, 0, "x", bad(1), &mut observers));
+    assert!(rt; takes(&mut visit));
+    assert!(rt; loses(&mut visit, 1, Ok(Lost::Again { tries: 2 })));
+    assert!(rt; takes(&mut visit));
+    assert!(rt; loses(&mut visit, 2, Ok(Lost::GivenUp)));
+    assert!(rt; loses(&mut visit, 2, Err(LoseRefusal::Settled { ask: 2 })));
+    assert!(rt;
+        loses(
+            &mut visit,
+            3,
+            Err(LoseRefusal::NoSuchAsk { ask: 3, asks: 3 })
+        )
+    );
+    assert!(rt; delivers(&mut visit, 1, PART, used(0, 1), &mut observers));
+    assert!(rt; delivers(&mut visit, 2, "x", bad(3), &mut observers));
+    assert!(rt;
+        delivers(
+            &mut visit,
+            3,
+            PART,
+            Err(DeliverError::NoSuchAsk { ask: 3, asks: 3 }),
+            &mut observers
+        )
+    );
+    assert_eq!(rt; state_of(&visit, b"b"), Some(Phase::Error));
     Ok(())
 }

@@ -46,7 +46,11 @@ pub(crate) fn places_of(
 }
 
 /// The part at the place of a row.
-fn first_of<'a>(parts: &'a [Part], places: &[Option<usize>], row: u32) -> Option<&'a Part>
+pub(crate) fn first_of<'a>(
+    parts: &'a [Part],
+    places: &[Option<usize>],
+    row: u32,
+) -> Option<&'a Part>
     ensures { option_map (λ part. part.now) result ≡ part_at parts.now places.now row }
 {
     match places.get(row as usize) {

@@ -1,41 +1,43 @@
 //! A page view from its opening on: its calls, and all that follows of them.
 ghost use Rattle.std.specs.Prelude.{◌≡◌, ◌<◌, ◌≤◌, ◌++◌, ◌∷◌, [], ℕ, List, Bool, false, IfErr, IfOk, IsTrue, OnOk, OnErr, Some};
-ghost use Rattle.std.specs.Prelude.{length, option_map, reverse, slice_get};
+ghost use Rattle.std.specs.Prelude.{length, option_map, reverse, slice_get, Ok, Err};
 ghost use Rattle.rl_names.specs.declared.name.Key.{Key};
 ghost use Rattle.rl_batch.specs.Given.{IsBase};
 ghost use Rattle.rl_batch.specs.Requests.{MayBeLost};
+ghost use Rattle.rl_wire.specs.Reading.{answer_of};
+ghost use Rattle.rl_book_spec.specs.Given.{took_by};
 ghost use Rattle.rl_book_spec.specs.Kept.{IsBook, Notes, is_due, plan_in, registered_in, traffic_in};
-ghost use Rattle.rl_book_spec.specs.Traffic.{all_settled};
-ghost use Rattle.rl_book_spec.specs.declared.Call.TheVariants.{Take, Lose};
+ghost use Rattle.rl_book_spec.specs.Traffic.{all_settled, asked_of};
+ghost use Rattle.rl_book_spec.specs.declared.Asked.{Asked};
+ghost use Rattle.rl_book_spec.specs.declared.Call.TheVariants.{Take, Deliver, Lose};
+ghost use Rattle.rl_book_spec.specs.declared.Sent.{Sent};
 ghost use Rattle.rl_book.specs.Calls.{ExecutesNext, IsRun, Loses, Refuses, Rests, Resumes, StateIs, Takes, batch_at, due_row, has_waiting};
 ghost use Rattle.rl_book.specs.Calls.{is_answered, is_lost_at, is_settled_at, losses_at, next_ask};
 ghost use Rattle.rl_book.specs.Opens.{Opens};
-ghost use Rattle.rl_book.specs.Serving.{LoadsEach, NotesLoad, NotesUsing, RequestsAll};
+ghost use Rattle.rl_book.specs.Serving.{Delivers, LoadsEach, NotesDelivery, NotesLoad, NotesUsing, RequestsAll};
 
 use crate::answer::{Ask, Lost, Run};
-use crate::error::{LoseRefusal, OpenError, UsingError};
+use crate::delivering::deliver_parts;
+use crate::error::{DeliverError, LoseRefusal, OpenError, UsingError};
 use crate::given::{Delivered, none_delivered};
-use crate::giving::give_up_at_third;
+use crate::giving::{give_up_at_third, lose_open, losses_of};
 use crate::opening::{parts_said, rows_said};
 use crate::requesting::{load, request};
-use crate::running::{first_named, run_with};
+use crate::running::run_with;
 use crate::serving::{copies, make_room};
-use crate::touching::places_of;
+use crate::touching::{first_of, places_of};
 use rl_base::Hears;
 use rl_batch::Requests;
 use rl_batch::requests::is_settled;
-use rl_book_spec::{Call, Mark, Origin, Plan};
+use rl_book_spec::{Call, Mark, Origin, Plan, Took};
 use rl_names::{Blob, NoMemory, Seq, Text};
 use rl_registry::{Registry, ResolveError};
 use rl_states::{Phase, Table};
 use rl_view::uncounted;
-use rl_wire::Part;
+use rl_wire::{Part, WireError, read_answer};
 use std::alloc::Global;
 use std::marker::{Brand, Model};
 use std::sync::ledger::Blank;
-
-/// Calls have numbers of 32 bits, and two more must fit.
-const MAX_CALLS: usize = 0xFFFF_FFFD;
 
 /// One page view, from its opening on, but for those who are told of what executes.
 #[derive(Drop)]
@@ -121,11 +123,7 @@ impl Visit {
         ensures ok { OnOk result (Notes Take self.old self.new) }
         ensures err { OnErr result (self.new ≡ self.old) }
     {
-        let asks = self.requests.ask_count() as usize;
-        if self.calls.len() > MAX_CALLS || asks > MAX_CALLS - self.calls.len() {
-            return Err(NoMemory);
-        }
-        self.calls.reserve(asks + 2)?;
+        make_room(&mut self.calls, &self.requests)?;
         self.requests.take()?;
         self.calls.push_reserved(Call::Take);
         Ok(())
@@ -286,6 +284,95 @@ impl Visit {
         Ok(dropped)
     }
 
+    /// Notes the answer to an ask, which nothing executes for yet: the rows of its batch take the parts that count for them.
+    fn note_answer(
+        &mut self,
+        ask: u32,
+        bytes: Blob,
+        parts: Vec<Part>,
+        mark: Mark,
+    ) -> Result<Took, NoMemory>
+        requires rests { Rests self.old }
+        requires asked { (pair : Asked × Sent) × (asked_of (traffic_in self.old) ask ≡ Some pair) }
+        requires read { answer_of bytes ≡ Ok parts.items }
+        ensures took { IfOk result (λ took. took ≡ took_by self.old.opening self.old.past (Deliver ask bytes mark) parts.items) }
+        ensures ok { OnOk result (Notes (Deliver ask bytes mark) self.old self.new) }
+        ensures err { OnErr result (self.new ≡ self.old) }
+    {
+        make_room(&mut self.calls, &self.requests)?;
+        let took = deliver_parts(
+            self.alloc,
+            &mut self.table,
+            &mut self.delivered,
+            &mut self.requests,
+            ask,
+            parts,
+            mark,
+        )?;
+        self.calls.push_reserved(Call::Deliver { ask, bytes, mark });
+        Ok(took)
+    }
+
+    /// Notes what is no answer to an ask, and tells how many asks of its batch are lost by then.
+    fn note_refusal(&mut self, ask: u32, bytes: Blob, mark: Mark) -> Result<u32, NoMemory>
+        requires { (line : ℕ) × (answer_of bytes ≡ Err line) }
+        ensures tries { IfOk result (λ tries. tries ≡ losses_at (traffic_in self.new) ask) }
+        ensures ok { OnOk result (Notes (Deliver ask bytes mark) self.old self.new) }
+        ensures err { OnErr result (self.new ≡ self.old) }
+    {
+        make_room(&mut self.calls, &self.requests)?;
+        lose_open(&mut self.table, &mut self.requests, ask);
+        self.calls.push_reserved(Call::Deliver { ask, bytes, mark });
+        Ok(losses_of(&self.requests, ask))
+    }
+
+    /// Notes what was delivered to an ask, which nothing executes for yet; or says why it is refused.
+    fn note_delivery(&mut self, ask: u32, bytes: &[u8], mark: Mark) -> Result<Took, DeliverError>
+        requires { Rests self.old }
+        ensures { NotesDelivery result ask bytes.now mark self.old self.new }
+    {
+        if self.requests.asked(ask).is_none() {
+            return Err(DeliverError::NoSuchAsk {
+                ask,
+                asks: self.requests.ask_count(),
+            });
+        }
+        let copy = Blob::of(self.alloc, bytes)?;
+        match read_answer(self.alloc, bytes) {
+            Ok(parts) => Ok(self.note_answer(ask, copy, parts, mark)?),
+            Err(WireError::BadLine { line }) => {
+                let tries = self.note_refusal(ask, copy, mark)?;
+                Err(DeliverError::BadWire { line, tries })
+            }
+            Err(WireError::NoMemory) => Err(DeliverError::NoMemory),
+        }
+    }
+
+    /// Takes what was delivered to an ask, and tells what became of its parts. Each row of the ask's batch that is touched,
+    /// is not skipped and has no outcome takes the first part of its name, also where the ask was lost. What is no answer
+    /// counts as a loss of the ask, where it may be lost. First what was due executes, then what the answer made due, and
+    /// the observers are told of each execution before it counts.
+    pub fn deliver<O: Hears>(
+        &mut self,
+        ask: u32,
+        bytes: &[u8],
+        mark: Mark,
+        observers: &mut O,
+    ) -> Result<Took, DeliverError>
+        ensures serves { Delivers (O.says observers.old) result ask bytes.now mark self.old self.new (O.told observers.old) (O.told observers.new) }
+        ensures fixed { (k : Key) (s : List ℕ) → O.says observers.new k s ≡ O.says observers.old k s }
+        ensures same { (first : O) → O.same first observers.old → O.same first observers.new }
+    {
+        self.resume(observers)?;
+        match self.note_delivery(ask, bytes, mark) {
+            Ok(took) => match self.resume(observers) {
+                Ok(()) => Ok(took),
+                Err(NoMemory) => Err(DeliverError::NoMemory),
+            },
+            Err(error) => Err(error),
+        }
+    }
+
     /// The execution of a row that was answered with an implementation, before any observer was told of it.
     fn run_of(&self, row: u32) -> Result<Run, NoMemory>
         requires within { row < length self.now.opening.registered.rows }
@@ -294,13 +381,10 @@ impl Visit {
     {
         match &self.delivered[row as usize] {
             Some(taken) => run_with(row, &taken.part, Origin::Wire { mark: taken.mark }),
-            None => {
-                let name = self.table.registry().row_at(row).name.as_bytes();
-                match first_named(self.embedded.as_slice(), name) {
-                    Some(part) => run_with(row, part, Origin::Embedded),
-                    None => unreachable!(),
-                }
-            }
+            None => match first_of(self.embedded.as_slice(), self.places.as_slice(), row) {
+                Some(part) => run_with(row, part, Origin::Embedded),
+                None => unreachable!(),
+            },
         }
     }
 
