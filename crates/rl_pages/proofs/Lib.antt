@@ -1,3 +1,4 @@
+pub mod ChoiceLemmas
 pub mod HistoryLemmas
 pub mod IndexLemmas
 pub mod OptionLemmas

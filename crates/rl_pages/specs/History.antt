@@ -27,14 +27,23 @@ text_after title found entry = option_or (text_in title entry) found
 abbrev pub page_of : List Entry → List ℕ → Option (List ℕ)
 page_of entries title = fold (text_after title) None entries
 
--- the number of the last entry that edits a page, behind so many others and one of this number
-abbrev pub revision_after : List ℕ → ℕ → ℕ → List Entry → ℕ
-revision_after title count found [] = found
-revision_after title count found (e ∷ es) = revision_after title (count + 1) (if edits title e then count + 1 else found) es
+-- whether an entry is a choice of a user
+abbrev pub chooses : List ℕ → Entry → Bool
+chooses name (Edit by title text) = false
+chooses name (Choice user key value) = bytes_eq name user
 
--- the revision of a page: the number of its last edit among all entries, counted from 1; 0 for no page
+-- the number of the last entry of these that is meant, behind so many others and one of this number
+abbrev pub last_after : (Entry → Bool) → ℕ → ℕ → List Entry → ℕ
+last_after meant count found [] = found
+last_after meant count found (e ∷ es) = last_after meant (count + 1) (if meant e then count + 1 else found) es
+
+-- the number of the last entry that is meant, counted from 1; 0 where there is none
+abbrev pub last_number : (Entry → Bool) → List Entry → ℕ
+last_number meant entries = last_after meant 0 0 entries
+
+-- the revision of a page: the number of its last edit among all entries; 0 for no page
 abbrev pub revision_of : List Entry → List ℕ → ℕ
-revision_of entries title = revision_after title 0 0 entries
+revision_of entries title = last_number (edits title) entries
 
 -- the text of an edit
 abbrev pub any_text : Entry → Option (List ℕ)

@@ -1,8 +1,8 @@
-//! The number of the last edit of each page, by its title.
-ghost use Rattle.std.specs.Prelude.{◌≡◌, ℕ, List, if◌then◌else◌, bytes_eq, IsSome, OnOk, option_map};
+//! The number of the last edit of each page, by its title, and of the last choice of each user.
+ghost use Rattle.std.specs.Prelude.{◌≡◌, ℕ, List, [], if◌then◌else◌, bytes_eq, IsSome, OnOk, option_map};
 ghost use Rattle.std.specs.BTreeMap.{get_by_text};
-ghost use Rattle.rl_pages.specs.History.{edits, text_numbered};
-ghost use Rattle.rl_pages.specs.Index.{number_at, HasNumber};
+ghost use Rattle.rl_pages.specs.History.{edits, chooses, text_numbered};
+ghost use Rattle.rl_pages.specs.Index.{number_at, HasNumber, HasChooser, number_before, befores, entry_numbered};
 
 use crate::entry::Entry;
 use rl_names::NoMemory;
@@ -71,6 +71,69 @@ pub(crate) fn set_number_by(numbers: &mut BTreeMap<String, u64>, entry: &Entry, 
     match entry {
         Entry::Edit { title, .. } => set_number(numbers, title.as_str(), number),
         Entry::Choice { .. } => {}
+    }
+}
+
+/// Makes a place for the number of a choice of a user. No number changes.
+pub(crate) fn make_place_of_chooser(
+    alloc: Global,
+    choosers: &mut BTreeMap<String, u64>,
+    entry: &Entry,
+) -> Result<(), NoMemory>
+    ensures same { (q : List ℕ) → number_at choosers.new q ≡ number_at choosers.old q }
+    ensures place { OnOk result (HasChooser choosers.new entry.now) }
+    ensures kept { (q : List ℕ) → IsSome (get_by_text choosers.old q) → IsSome (get_by_text choosers.new q) }
+{
+    match entry {
+        Entry::Edit { .. } => Ok(()),
+        Entry::Choice { user, .. } => make_place(alloc, choosers, user.as_str()),
+    }
+}
+
+/// Sets the number of the user whose choice an entry is.
+pub(crate) fn set_number_of_chooser(
+    choosers: &mut BTreeMap<String, u64>,
+    entry: &Entry,
+    number: u64,
+)
+    requires { HasChooser choosers.old entry.now }
+    ensures { (q : List ℕ) → number_at choosers.new q ≡ (if chooses q entry.now then number else number_at choosers.old q) }
+{
+    match entry {
+        Entry::Edit { .. } => {}
+        Entry::Choice { user, .. } => set_number(choosers, user.as_str(), number),
+    }
+}
+
+/// The number of the last choice of the user whose choice an entry is; 0 for an edit.
+pub(crate) fn number_before(choosers: &BTreeMap<String, u64>, entry: &Entry) -> u64
+    ensures { result ≡ number_before choosers.now entry.now }
+{
+    match entry {
+        Entry::Edit { .. } => 0,
+        Entry::Choice { user, .. } => number_of(choosers, user.as_str()),
+    }
+}
+
+/// The entry of a number, and the number of the choice before it of the same user.
+pub(crate) fn choice_numbered<'a>(
+    entries: &'a [Entry],
+    before: &[u64],
+    number: u64,
+) -> Option<(&'a Entry, u64)>
+    requires { before.now ≡ befores [] entries.now }
+    ensures { option_map (λ found. (found.0.now, found.1)) result ≡ entry_numbered entries.now number }
+{
+    if number == 0 {
+        return None;
+    }
+    let at = number as usize - 1;
+    match entries.get(at) {
+        Some(entry) => match before.get(at) {
+            Some(before) => Some((entry, *before)),
+            None => None,
+        },
+        None => None,
     }
 }
 

@@ -1,6 +1,6 @@
 //! The options of a user, as their choices give them.
-ghost use Rattle.std.specs.Prelude.{◌≡◌, map, IfOk, OnOk};
-ghost use Rattle.rl_pages.specs.History.{options_of, options_after, put_option};
+ghost use Rattle.std.specs.Prelude.{◌≡◌, [], fold, map, IfOk, OnOk};
+ghost use Rattle.rl_pages.specs.History.{options_after, put_option};
 ghost use Rattle.rl_names.specs.declared.part.Message.{Message};
 
 use crate::entry::Entry;
@@ -8,16 +8,16 @@ use rl_names::{Message, NoMemory, Text};
 use std::alloc::Global;
 use std::collections::BTreeMap;
 
-/// The options of a user among these entries: the last value of each key, keys in byte order.
+/// The options of a user by their choices in order: the last value of each key, keys in byte order.
 pub(crate) fn options(
     alloc: Global,
-    entries: &[Entry],
+    choices: &[&Entry],
     user: &[u8],
 ) -> Result<Vec<Message>, NoMemory>
-    ensures { IfOk result (λ options. options.items ≡ options_of entries.now user.now) }
+    ensures { IfOk result (λ options. options.items ≡ fold (options_after user.now) [] (map (λ e. e.now) choices.now)) }
 {
     let mut values = BTreeMap::new(alloc);
-    'entries: for entry in entries {
+    'choices: for entry in choices {
         put_choice(&mut values, user, entry)?;
     }
     messages(alloc, &values)

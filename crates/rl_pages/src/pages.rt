@@ -1,10 +1,10 @@
 //! The history of a wiki, and what stands in it.
-ghost use Rattle.std.specs.Prelude.{◌≡◌, ◌≢◌, ◌+◌, ◌++◌, ◌∷◌, [], ◌<◌, ◌≤◌, length, option_map, slice_get, Some, None};
+ghost use Rattle.std.specs.Prelude.{◌≡◌, ◌≢◌, ◌+◌, ◌++◌, ◌∷◌, [], ◌<◌, ◌≤◌, length, map, fold, option_map, slice_get, Some, None};
 ghost use Rattle.std.specs.Prelude.{Ok, Err, IfOk, OnErr, OnOk, IfErr, IsTrue};
 ghost use Rattle.std.specs.List.{list_all};
 ghost use Rattle.rl_names.specs.Title.{title_of};
 ghost use Rattle.rl_pages.specs.Viewer.{IsViewer};
-ghost use Rattle.rl_pages.specs.History.{page_of, revision_of, options_of, bytes_of, size_of, Fits};
+ghost use Rattle.rl_pages.specs.History.{page_of, revision_of, options_of, options_after, bytes_of, size_of, Fits};
 ghost use Rattle.rl_pages.specs.Laws.{HistoryLaws};
 ghost use Rattle.rl_pages.specs.Refusals.{checked_edit, titled_edit, sized_edit, checked_choice, checked_kept, is_full, is_option_key, is_option_byte};
 ghost use Rattle.rl_names.specs.Meant.{Gives};
@@ -13,7 +13,10 @@ ghost use Rattle.rl_pages.specs.Seen.{seen, SeenLaws};
 
 use crate::entry::Entry;
 use crate::limits::{MAX_ENTRIES, MAX_ENTRY_BYTES, MAX_KEY_BYTES, MAX_PAGE_BYTES, MAX_VALUE_BYTES};
-use crate::numbers::{make_place_for, number_of, set_number_by, text_numbered};
+use crate::numbers::{
+    choice_numbered, make_place_for, make_place_of_chooser, number_before, number_of,
+    set_number_by, set_number_of_chooser, text_numbered,
+};
 use crate::options::options;
 use crate::policy::Policy;
 use crate::refusals::{ChoiceError, EditError, KeptError};
@@ -36,6 +39,13 @@ pub struct Pages {
     /// The number of the last edit of each page. A title that was never edited may stand here with 0.
     numbers: BTreeMap<String, u64>,
 
+    /// For each entry that is a choice the number of the choice before it of the same user; 0 where there is none, and
+    /// for an edit.
+    before: Vec<u64>,
+
+    /// The number of the last choice of each user. A name that never chose may stand here with 0.
+    choosers: BTreeMap<String, u64>,
+
     /// The entry for which there is room.
     room: Option<Entry>,
 }
@@ -49,7 +59,7 @@ impl Model for Pages {
 
     ghost view = { λ p. record { entries = p.entries.items; room = p.room } };
 
-    ghost invariant = { λ p. IsIndexed p.entries.items p.bytes (vec_capacity p.entries) p.numbers p.room };
+    ghost invariant = { λ p. IsIndexed p.entries.items p.bytes (vec_capacity p.entries) p.numbers p.before.items (vec_capacity p.before) p.choosers p.room };
 }
 
 /// As entries are added, revisions rise, no edit is lost, and every history stays one.
@@ -149,6 +159,8 @@ impl Pages {
             entries: Vec::new(alloc),
             bytes: 0,
             numbers: BTreeMap::new(alloc),
+            before: Vec::new(alloc),
+            choosers: BTreeMap::new(alloc),
             room: None,
         })
     }
@@ -221,7 +233,9 @@ impl Pages {
     {
         let kept = entry.copy()?;
         self.entries.reserve(1)?;
+        self.before.reserve(1)?;
         make_place_for(self.alloc, &mut self.numbers, &entry)?;
+        make_place_of_chooser(self.alloc, &mut self.choosers, &entry)?;
         self.room = Some(kept);
         Ok(entry)
     }
@@ -312,6 +326,10 @@ impl Pages {
         let number = self.entries.len() as u64 + 1;
         self.bytes += size(&entry) as u64;
         set_number_by(&mut self.numbers, &entry, number);
+        let Ok(()) = self.before.push(number_before(&self.choosers, &entry)) else {
+            unreachable!()
+        };
+        set_number_of_chooser(&mut self.choosers, &entry, number);
         self.room = None;
         let Ok(()) = self.entries.push(entry) else {
             unreachable!()
@@ -357,11 +375,34 @@ impl Pages {
         }
     }
 
+    /// The choices of a user, in order.
+    fn choices(&self, user: &str) -> Result<Vec<&Entry>, NoMemory>
+        ensures { IfOk result (λ found. fold (options_after user.now) [] (map (λ e. e.now) found.items)
+            ≡ options_of self.now.entries user.now) }
+    {
+        let mut found = Vec::new(self.alloc);
+        let mut number = number_of(&self.choosers, user);
+        'choices: while let Some((entry, before)) = choice_numbered(
+            self.entries.as_slice(),
+            self.before.as_slice(),
+            number,
+        ) {
+            found.push(entry)?;
+            number = before;
+        }
+        found.reverse();
+        Ok(found)
+    }
+
     /// The options of a user: the last value of each key, keys in byte order.
     pub fn choices_of(&self, user: &[u8]) -> Result<Vec<Message>, NoMemory>
         ensures { IfOk result (λ options. options.items ≡ options_of self.now.entries user.now) }
     {
-        options(self.alloc, self.entries.as_slice(), user)
+        match str::from_utf8(user) {
+            Ok(name) => options(self.alloc, self.choices(name)?.as_slice(), user),
+            // A user's name is UTF-8.
+            Err(_) => Ok(Vec::new(self.alloc)),
+        }
     }
 
     /// How many entries there are.
