@@ -41,3 +41,20 @@ def peak_memory(words, folder, program):
             cwd=folder, stdout=subprocess.DEVNULL, stderr=subprocess.DEVNULL,
         )
         return int(report.read().split()[-1]) * 1024
+
+
+def built(name, *below):
+    """The program of a crate, built first, which proves it, where it is not there or a source of it or of a crate below is newer."""
+    crate = os.path.join(TOP, "crates", name)
+    program = os.path.join(crate, "out", name)
+    sources = [os.path.join(TOP, "crates", one, "src") for one in (name, *below)]
+    newest = max(os.path.getmtime(os.path.join(folder, file)) for folder in sources for file in os.listdir(folder))
+    if os.access(program, os.X_OK) and os.path.getmtime(program) >= newest:
+        return program
+    print(f"bench: building {name}; it is proved first", file=sys.stderr)
+    if os.path.exists(program):
+        os.remove(program)
+    done = subprocess.run(["rt", "run"], cwd=crate, stdout=subprocess.PIPE, stderr=subprocess.STDOUT, text=True)
+    if not os.access(program, os.X_OK):
+        sys.exit(done.stdout + f"bench: {name} was not built")
+    return program
