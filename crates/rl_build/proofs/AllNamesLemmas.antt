@@ -1,5 +1,6 @@
 -- The names of the modules, and the built-in ones, are the names with a sheet.
-use Rattle.std.proofs.Common.{◌≡◌, ◌↔◌, ℕ, zero, suc, Bool, true, false, ◌⊎◌, inl, inr, List, [], ◌∷◌, ◌+◌, ◌≤◌, length, map, find}
+use Rattle.std.proofs.Common.{◌≡◌, ◌↔◌, ℕ, zero, suc, Bool, true, false, ◌⊎◌, inl, inr, List, [], ◌∷◌, ◌+◌, ◌≤◌}
+use Rattle.std.proofs.Common.{length, map, find}
 use Rattle.std.proofs.Common.{Option, Some, None, option_map, IsSome, bytes_eq, nat_cmp, refl, sym, ap, subst, ◌∙◌, arith}
 use Rattle.std.specs.Prelude.{Contains}
 use Rattle.std.specs.Cmp.Lexicographic.{slice_cmp}
@@ -56,7 +57,8 @@ pub to_names : (ns : List (List ℕ)) (n m : List ℕ) → Contains (put_name ns
 to_names [] n m h = first_or_later n [] m h
 to_names (x ∷ xs) n m h = to_old n x m xs (slice_cmp nat_cmp n x) (to_names xs n m) h
 
-new_there : (n x : List ℕ) (xs : List (List ℕ)) (o : Ordering) → slice_cmp nat_cmp n x ≡ o → Contains (put_name xs n) n → Contains (put_by o n x xs) n
+new_there : (n x : List ℕ) (xs : List (List ℕ)) (o : Ordering) → slice_cmp nat_cmp n x ≡ o → Contains (put_name xs n) n
+    → Contains (put_by o n x xs) n
 new_there n x xs Less e rest = first n (x ∷ xs) n refl
 new_there n x xs Equal e rest = first x xs n (same_name x n e)
 new_there n x xs Greater e rest = later x (put_name xs n) n rest
@@ -98,7 +100,8 @@ below_put x n (y ∷ ys) e h = below_by x n y ys (slice_cmp nat_cmp n y) e h (be
 turned : (n x : List ℕ) → slice_cmp nat_cmp n x ≡ Greater → slice_cmp nat_cmp x n ≡ Less
 turned n x e = nat_list_cmp_total.antisymm x n ∙ ap ordering_reverse e
 
-ascending_by : (n x : List ℕ) (xs : List (List ℕ)) (o : Ordering) → slice_cmp nat_cmp n x ≡ o → IsAscending (x ∷ xs) → IsAscending (put_name xs n) →
+ascending_by : (n x : List ℕ) (xs : List (List ℕ)) (o : Ordering) → slice_cmp nat_cmp n x ≡ o → IsAscending (x ∷ xs)
+    → IsAscending (put_name xs n) →
     IsAscending (put_by o n x xs)
 unfolding IsStrictlySortedBy
 ascending_by n x xs Less e h rest = ((e, below_all n x xs e h.0), h)
@@ -119,12 +122,14 @@ pub ascending_all : (ns : List (List ℕ)) (bs : List BuiltIn) → IsAscending n
 ascending_all ns [] h = h
 ascending_all ns (b ∷ bs) h = ascending_all (put_built_in ns b) bs (ascending_put ns (built_in_name b) h)
 
-to_all : (ns : List (List ℕ)) (bs : List BuiltIn) (m : List ℕ) → Contains (fold put_built_in ns bs) m → Contains (map built_in_name bs) m ⊎ Contains ns m
+to_all : (ns : List (List ℕ)) (bs : List BuiltIn) (m : List ℕ) → Contains (fold put_built_in ns bs) m
+    → Contains (map built_in_name bs) m ⊎ Contains ns m
 to_all ns [] m h = inr h
 to_all ns (b ∷ bs) m h =
     elim (to_all (put_built_in ns b) bs m h) [
       | inl there ↦ inl (later (built_in_name b) (map built_in_name bs) m there)
-      | inr put ↦ elim (to_names ns (built_in_name b) m put) [ inl same ↦ inl (first (built_in_name b) (map built_in_name bs) m same) | inr old ↦ inr old ]
+      | inr put ↦ elim (to_names ns (built_in_name b) m put)
+          [ inl same ↦ inl (first (built_in_name b) (map built_in_name bs) m same) | inr old ↦ inr old ]
     ]
 
 from_old : (ns : List (List ℕ)) (bs : List BuiltIn) (m : List ℕ) → Contains ns m → Contains (fold put_built_in ns bs) m
@@ -139,7 +144,8 @@ from_new ns (b ∷ bs) m h =
       | inr there ↦ from_new (put_built_in ns b) bs m there
     ]
 
-length_by : (n x : List ℕ) (xs : List (List ℕ)) (o : Ordering) → length (put_name xs n) ≤ suc (length xs) → length (put_by o n x xs) ≤ suc (suc (length xs))
+length_by : (n x : List ℕ) (xs : List (List ℕ)) (o : Ordering) → length (put_name xs n) ≤ suc (length xs)
+    → length (put_by o n x xs) ≤ suc (suc (length xs))
 length_by n x xs Less h = omega arith
 length_by n x xs Equal h = omega arith
 length_by n x xs Greater h = omega arith
@@ -157,7 +163,8 @@ unfolding built_ins
 built_ins_few = refl
 
 -- with them there are no more names than rows may be
-pub few_names : (ms : List ModuleDef) → length ms ≤ limit_of Modules → length (fold put_built_in (map (λ (m : ModuleDef). m.name) ms) built_ins) ≤ limit_of Rows
+pub few_names : (ms : List ModuleDef) → length ms ≤ limit_of Modules
+    → length (fold put_built_in (map (λ (m : ModuleDef). m.name) ms) built_ins) ≤ limit_of Rows
 few_names ms few =
     omega (arith, few_more (map (λ (m : ModuleDef). m.name) ms) built_ins, length-map ms (λ (m : ModuleDef). m.name), built_ins_few, few)
 

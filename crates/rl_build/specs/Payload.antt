@@ -51,7 +51,8 @@ payload_of_built_in s ctx b = record { script = built_in_script s ctx b; styles 
 -- what a name brings, where it has a sheet
 abbrev pub payload_of : Sight → Context → List ℕ → Option Payload
 payload_of s ctx name =
-    option_or (option_map (payload_of_built_in s.history ctx) (built_in_named name)) (option_map (payload_of_module s.catalogue) (module_named s.catalogue name))
+    option_or (option_map (payload_of_built_in s.history ctx) (built_in_named name))
+    (option_map (payload_of_module s.catalogue) (module_named s.catalogue name))
 
 -- what holds of a name and of what it brings: the name is one, the texts are UTF-8, and the messages are in order
 abbrev pub IsBrought : List ℕ → Payload → Type 0

@@ -1,5 +1,6 @@
 -- What a player's rows tell of who is to blame.
-use Rattle.std.proofs.Common.{◌≡◌, ℕ, ◌+◌, ◌<◌, length, List, [], ◌∷◌, Bool, true, false, ◌&&◌, ◌||◌, not, map, Option, Some, None, refl, ap, ap₂, sym, subst, ◌∙◌}
+use Rattle.std.proofs.Common.{◌≡◌, ℕ, ◌+◌, ◌<◌, length, List, [], ◌∷◌, Bool, true, false, ◌&&◌, ◌||◌, not, map, Option}
+use Rattle.std.proofs.Common.{Some, None, refl, ap, ap₂, sym, subst, ◌∙◌}
 use Rattle.std.proofs.Common.{⊎_elim, arith, nat_eq}
 use Rattle.std.specs.Prelude.{Contains, bytes_eq, cond, filter, if◌then◌else◌, is_none, is_some, option_map}
 use Rattle.std.specs.List.{list_any}
@@ -15,7 +16,8 @@ use Rattle.rl_view_spec.specs.Laws.{AreLawful, Belongs}
 use Rattle.rl_view_spec.specs.Numbers.{closure_numbers, number_of}
 use Rattle.rl_view_spec.specs.Progress.{HasDistinctNames, Progress, name_at, has_run, is_skipped_at, outcome_at, phase_of, row_numbers}
 use Rattle.rl_view_spec.specs.View.{View, Event, Answer, Implementation, Missing, Failed, GivenUp, all_in_closure, all_others, answer_in, first_of, is_broken}
-use Rattle.rl_view_spec.specs.View.{is_good, is_implementation, is_lost, is_missing, is_thrown, is_touched, kind_of, log_of, or_else, state_of, throws_at, throws_for}
+use Rattle.rl_view_spec.specs.View.{is_good, is_implementation, is_lost, is_missing, is_thrown, is_touched, kind_of, log_of, or_else, state_of}
+use Rattle.rl_view_spec.specs.View.{throws_at, throws_for}
 use Rattle.rl_view_spec.specs.View.{touches}
 use Rattle.rl_view_spec.specs.declared.Outcome.{Outcome}
 use Rattle.rl_view_spec.specs.declared.Phase.{Phase}
@@ -116,7 +118,8 @@ unthrown v name (Some Missing) others h = refl
 unthrown v name (Some Failed) others h = refl
 unthrown v name (Some GivenUp) others h = refl
 
-module _ (v : View) (past : List Event) (lawful : AreLawful v past) (distinct : HasDistinctNames v.registered) (k : ℕ) (low : k < length v.registered.rows) where
+module _ (v : View) (past : List Event) (lawful : AreLawful v past) (distinct : HasDistinctNames v.registered)
+    (k : ℕ) (low : k < length v.registered.rows) where
   abbrev r : Registered
   r = v.registered
 

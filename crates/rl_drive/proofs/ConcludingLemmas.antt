@@ -63,7 +63,8 @@ module _ (throws : Throws) where
       Concludes (Err (of_script error)) (verdict_of throws bytes)
   at_fault bytes (faulty.BadLine line why) valid tells = λ refusal p. of_text bytes valid
       ∙ fault_is (first_fault 0 (lines_of bytes)) _ refusal (tells refusal p)
-  at_fault bytes (faulty.TooMany count) valid tells = λ refusal p. of_text bytes valid ∙ fault_is (first_fault 0 (lines_of bytes)) _ refusal (tells refusal p)
+  at_fault bytes (faulty.TooMany count) valid tells = λ refusal p. of_text bytes valid
+      ∙ fault_is (first_fault 0 (lines_of bytes)) _ refusal (tells refusal p)
   at_fault bytes faulty.NoMemory valid tells = λ refusal p. of_text bytes valid ∙ fault_is (first_fault 0 (lines_of bytes)) _ refusal (tells refusal p)
 
   -- a script whose lines may stand where they do
@@ -96,12 +97,14 @@ module _ (throws : Throws) where
   -- a script that was played
   pub is_played : (bytes : Text) (r : Registered) (steps : List Step) (text : Text) (ready : Bool) → IsUtf8 bytes →
       first_fault 0 (lines_of bytes) ≡ None → registered_in (lines_of bytes) ≡ r → steps_in (lines_of bytes) ≡ steps
-      → breach_of r.rows ≡ None → text ≡ output_of (record { registered = r; throws = throws }) (reverse steps) → ready ≡ all_ready (record { registered = r; throws = throws }) (reverse steps) →
+      → breach_of r.rows ≡ None → text ≡ output_of (record { registered = r; throws = throws }) (reverse steps)
+      → ready ≡ all_ready (record { registered = r; throws = throws }) (reverse steps) →
       verdict_of throws bytes ≡ Prints text ready
   is_played bytes r steps text ready valid none are steps_are whole e f =
       of_lines bytes r valid none are
       ∙ ap (λ (breach : Option Breach). option_map_or breach_verdict breach (printed throws bytes)) whole
-      ∙ ap₂ (λ (r : Registered) (steps : List Step). Prints (output_of (record { registered = r; throws = throws }) (reverse steps)) (all_ready (record { registered = r; throws = throws }) (reverse steps))) are steps_are
+      ∙ ap₂ (λ (r : Registered) (steps : List Step). Prints (output_of (record { registered = r; throws = throws }) (reverse steps))
+      (all_ready (record { registered = r; throws = throws }) (reverse steps))) are steps_are
       ∙ ap₂ Prints (sym e) (sym f)
 
 -- ---- what is heard

@@ -17,7 +17,8 @@ use Rattle.rl_drive.specs.declared.given.Given.{Given}
 abbrev pub hearing : Option Answer → Text → Option (Key × Text)
 hearing outcome name = execution_of name outcome
 
-by_names : (one other : Text → Option Answer) (rows : List Row) → map (λ (row : Row). hearing (one row.name)) rows ≡ map (λ (row : Row). hearing (other row.name)) rows
+by_names : (one other : Text → Option Answer) (rows : List Row)
+    → map (λ (row : Row). hearing (one row.name)) rows ≡ map (λ (row : Row). hearing (other row.name)) rows
     → map (λ (row : Row). execution_of row.name (one row.name)) rows ≡ map (λ (row : Row). execution_of row.name (other row.name)) rows
 by_names one other [] e = refl
 by_names one other (row ∷ rows) e =

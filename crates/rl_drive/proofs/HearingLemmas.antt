@@ -41,7 +41,8 @@ module _ (v : View) where
   executions_both past one other =
       filter_map-append (λ row. execution_of (name_at v.registered row) (first_of v past (name_at v.registered row))) one other
 
-  pub executions_more : (past : List Event) (rows : List ℕ) (row : ℕ) → executions_of v past (rows ++ row ∷ []) ≡ executions_of v past rows ++ heard_at past row
+  pub executions_more : (past : List Event) (rows : List ℕ) (row : ℕ)
+      → executions_of v past (rows ++ row ∷ []) ≡ executions_of v past rows ++ heard_at past row
   executions_more past rows row =
       executions_both past rows (row ∷ [])
       ∙ ap (λ (xs : List (Key × Text)). executions_of v past rows ++ xs)

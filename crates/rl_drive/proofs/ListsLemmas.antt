@@ -1,5 +1,6 @@
 -- Lists that change by place.
-use Rattle.std.proofs.Common.{◌≡◌, ℕ, zero, suc, ◌+◌, List, [], ◌∷◌, ◌++◌, Bool, true, false, cond, map, Option, Some, None, refl, ap, ap₂, subst, ◌∙◌}
+use Rattle.std.proofs.Common.{◌≡◌, ℕ, zero, suc, ◌+◌, List, [], ◌∷◌, ◌++◌, Bool, true, false, cond, map, Option, Some, None}
+use Rattle.std.proofs.Common.{refl, ap, ap₂, subst, ◌∙◌}
 use Rattle.std.proofs.Common.{arith}
 use Rattle.std.specs.Prelude.{Contains, filter, flat_map, if◌then◌else◌, option_to_list, slice_get}
 use Rattle.std.specs.List.{cons_option, enumerate_from, filter_map}
@@ -39,7 +40,8 @@ pub as_list : {X : Type 0} (o : Option X) → cons_option o [] ≡ option_to_lis
 as_list None = refl
 as_list (Some x) = refl
 
-pub filter_map_alike : {X Y : Type 0} (f g : X → Option Y) (xs : List X) → ((x : X) → Contains xs x → f x ≡ g x) → filter_map f xs ≡ filter_map g xs
+pub filter_map_alike : {X Y : Type 0} (f g : X → Option Y) (xs : List X) → ((x : X) → Contains xs x → f x ≡ g x)
+    → filter_map f xs ≡ filter_map g xs
 filter_map_alike f g [] each = refl
 filter_map_alike f g (x ∷ xs) each =
     ap₂ cons_option (each x (contains_head x xs)) (filter_map_alike f g xs (λ z c. each z (contains_tail x xs z c)))

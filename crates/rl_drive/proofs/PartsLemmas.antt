@@ -93,7 +93,8 @@ give_used key script k old new out out' e table set text = record { event = p.ev
     p = part_used key.name (Implementation key.version script) k old new out out' e table
         (λ v past due c. set ∙ ap (λ (given : List (Option (Key × Text))). slice_set given k (Some (key, script))) due.given
         ∙ set_used v key.name (Implementation key.version script) (asks []) past k c due.table.distinct (λ row. execution_of row.name) (Some (key, script))
-        (λ row there. ap (λ (name : Text). Some (record { name = name; version = key.version }, script)) (sym (name_there v.registered k row there) ∙ c.named)))
+        (λ row there. ap (λ (name : Text). Some (record { name = name; version = key.version }, script)) (sym (name_there v.registered k row there)
+        ∙ c.named)))
         text
 
 pub settle_used : (name : Text) (kind : StateKind) (k : ℕ) (old new : Player) (out out' : Text) → counting_row old.table name ≡ Some k →

@@ -1,5 +1,6 @@
 -- Whole steps, and all steps of a script.
-use Rattle.std.proofs.Common.{◌≡◌, ℕ, ◌+◌, ◌<◌, ◌≤◌, List, [], ◌∷◌, ◌++◌, Bool, length, take, get_or, reverse, None, ap, ap₂, refl, sym}
+use Rattle.std.proofs.Common.{◌≡◌, ℕ, ◌+◌, ◌<◌, ◌≤◌, List, [], ◌∷◌, ◌++◌, Bool, length, take, get_or, reverse, None}
+use Rattle.std.proofs.Common.{ap, ap₂, refl, sym}
 use Rattle.std.proofs.Common.{subst, ◌∙◌}
 use Rattle.std.specs.Prelude.{codes, drop}
 use Rattle.std.proofs.lemmas.List.{map-append, reverse-append, take_all, take_more, take-append-drop}
@@ -57,7 +58,8 @@ summed player out out1 out2 out3 out4 e1 e2 e3 e4 v past played =
 -- ---- all steps
 
 -- after so many steps
-pub record Playing (says : Key → Text → Bool) (r : Registered) (steps : List Step) (i : ℕ) (player : Player) (out : Text) (told told' : Told) : Type 0 where
+pub record Playing (says : Key → Text → Bool) (r : Registered) (steps : List Step) (i : ℕ)
+    (player : Player) (out : Text) (told told' : Told) : Type 0 where
   pub rest : next_row player.table ≡ None
   pub played : HasPlayed (watched says r) (reverse (take i steps)) player
   pub replies : out ≡ replies_of (watched says r) (reverse (take i steps))

@@ -1,5 +1,6 @@
 -- What is printed of a row, and what the runs of an event print and tell.
-use Rattle.std.proofs.Common.{◌≡◌, ℕ, List, [], ◌∷◌, ◌++◌, Bool, length, Option, Some, None, refl, ap, ap₂, sym, subst, ◌∙◌, append_assoc}
+use Rattle.std.proofs.Common.{◌≡◌, ℕ, List, [], ◌∷◌, ◌++◌, Bool, length, Option, Some, None, refl, ap, ap₂, sym, subst, ◌∙◌}
+use Rattle.std.proofs.Common.{append_assoc}
 use Rattle.std.proofs.Common.{append-nil}
 use Rattle.std.specs.Prelude.{Result, Ok, Err, OnErr, codes, decimal, option_map, option_to_list, slice_get}
 use Rattle.std.specs.Option.{option_map_or}
@@ -122,7 +123,8 @@ module _ (says : Key → Text → Bool) (r : Registered) (event : Event) (past :
       (run_alike v now (log_of v past ++ (added ++ k ∷ [])) new (record { table = next_heard.runs.seen; given = next_heard.given }) k row.0 row.1
       ∙ ap (run_text v now) (sym (name_there r k row.0 row.1)))
 
-  pub lines_more : (out so_far out' : Text) → so_far ≡ out ++ run_lines v now added → out' ≡ so_far ++ line (run_word threw ++ run_at new.table (held new) k)
+  pub lines_more : (out so_far out' : Text) → so_far ≡ out ++ run_lines v now added
+      → out' ≡ so_far ++ line (run_word threw ++ run_at new.table (held new) k)
       → out' ≡ out ++ run_lines v now (added ++ k ∷ [])
   lines_more out so_far out' lines text =
       text ∙ ap₂ (λ (xs ys : Text). xs ++ ys) lines line_alike
@@ -170,7 +172,8 @@ dues_end says first old new out out' told told1 told' so_far end stays same = re
 -- ---- where memory ran out
 
 -- before a run
-pub stops_before : (says : Key → Text → Bool) (first old : Player) (out out' : Text) (told told1 told' : Told) → SoFar says first old out out' told told1 →
+pub stops_before : (says : Key → Text → Bool) (first old : Player) (out out' : Text) (told told1 told' : Told)
+    → SoFar says first old out out' told told1 →
     told' ≡ told1 → StopsDue says first told told'
 stops_before says first old out out' told told1 told' so_far same r event past due =
     let f = so_far r event past due in
@@ -195,7 +198,8 @@ ran_some says first o k threw old new told told' e same h =
     (subst (λ (o : Option (ℕ × Bool)). RunsNext says (Ok o) old new told told') e h)
 
 -- where it answers none, none may run
-pub ran_none : (says : Key → Text → Bool) (o : Option (ℕ × Bool)) (old new : Player) (told told' : Told) → ((run : ℕ × Bool) → o ≡ Some run → ⊥) →
+pub ran_none : (says : Key → Text → Bool) (o : Option (ℕ × Bool)) (old new : Player) (told told' : Told)
+    → ((run : ℕ × Bool) → o ≡ Some run → ⊥) →
     RunsNext says (Ok o) old new told told'
     → (next_row old.table ≡ None) × Stays old new × (told' ≡ told)
 ran_none says None old new told told' none h = h

@@ -86,7 +86,8 @@ ready_alike v past p name lawful s =
     step : (o : Option ℕ) → number_of v.registered name ≡ o → option_map_or (λ row. is_ready (phase_of p.table row)) o false
         ≡ is_ready (state_of v past name)
     step None e = sym (false_from_ne_true (is_ready (state_of v past name)) (λ h.
-        let f = number_found v.registered name ((touched_resolves v past name lawful (touched_ready v past name h)).known name (closure_itself v.registered name)) in
+        let f = number_found v.registered name
+        ((touched_resolves v past name lawful (touched_ready v past name h)).known name (closure_itself v.registered name)) in
         let g : None ≡ Some f.0 = sym e ∙ f.1 in absurd (cc)))
     step (Some k) e =
         let n = number_named v.registered name k e in

@@ -67,7 +67,8 @@ pub refused : (names : List Text) (why : Refusal) (old new : Player) (out out' :
 refused names why old new out out' e stays text = record {
   event = λ v past played.
       subst (λ (event : Event). IsDue v event (events_of v.registered past) new) (sym (brings_nothing v.registered) ∙ asked v past played)
-      (stays_seen v (asks [] ∷ events_of v.registered past) (log_of v (events_of v.registered past)) old new stays (due_begin v (events_of v.registered past) old played));
+      (stays_seen v (asks [] ∷ events_of v.registered past) (log_of v (events_of v.registered past)) old new stays
+      (due_begin v (events_of v.registered past) old played));
   reply = λ v past played. text ∙ ap (λ (o : Option Refusal). out ++ line (refused_line o)) (sym (some v past played));
 }
   where

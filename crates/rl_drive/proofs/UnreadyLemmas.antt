@@ -1,5 +1,6 @@
 -- Why not everything was served, as a player finds it.
-use Rattle.std.proofs.Common.{◌≡◌, ℕ, ◌+◌, List, [], ◌∷◌, Bool, true, false, ◌&&◌, not, reverse, Option, Some, None, refl, ap, ap₂, sym, subst}
+use Rattle.std.proofs.Common.{◌≡◌, ℕ, ◌+◌, List, [], ◌∷◌, Bool, true, false, ◌&&◌, not, reverse, Option, Some, None, refl, ap}
+use Rattle.std.proofs.Common.{ap₂, sym, subst}
 use Rattle.std.proofs.Common.{◌∙◌, ⊎_elim}
 use Rattle.std.specs.Prelude.{Contains, cond, find, flat_map, is_none, is_some, option_and_then, option_map}
 use Rattle.std.specs.List.{list_all}
@@ -169,9 +170,11 @@ module _ (v : View) (steps : List Step) (p : Player) (played : HasPlayed v (reve
 
   pub told_refused : (told : Unready) → first_refused v.registered 1 steps ≡ Some told → unready_of v (reverse steps) ≡ Some told
   told_refused told e = turned
-      ∙ ap (λ (o : Option Unready). option_or o (option_and_then (held_up v events) (find (λ name. not (is_ready_at p.table name)) (flat_map names_of steps)))) e
+      ∙ ap (λ (o : Option Unready). option_or o (option_and_then (held_up v events)
+      (find (λ name. not (is_ready_at p.table name)) (flat_map names_of steps)))) e
 
-  pub told_held : (o : Option Text) → first_refused v.registered 1 steps ≡ None → find (λ name. not (is_ready_at p.table name)) (flat_map names_of steps) ≡ o
+  pub told_held : (o : Option Text) → first_refused v.registered 1 steps ≡ None
+      → find (λ name. not (is_ready_at p.table name)) (flat_map names_of steps) ≡ o
       → unready_of v (reverse steps) ≡ option_and_then (held_up v events) o
   told_held o e f = turned ∙ ap₂ (λ (a : Option Unready) (o : Option Text). option_or a (option_and_then (held_up v events) o)) e f
 

@@ -10,7 +10,8 @@ ghost use Rattle.rl_script_spec.specs.Output.{answer_of, events_of, line, summar
 ghost use Rattle.rl_script_spec.specs.declared.Step.{Step};
 ghost use Rattle.rl_view.specs.Heard.{after_hearing};
 ghost use Rattle.rl_view.specs.Seen.{counting_row};
-ghost use Rattle.rl_drive.specs.Played.{executed_lines, execution_at, is_private_at, is_ready_at, is_served_at, key_at, run_at, run_word, script_length, state_at, state_lines, throws_for_run};
+ghost use Rattle.rl_drive.specs.Played.{executed_lines, execution_at, is_private_at, is_ready_at, is_served_at, key_at, run_at, run_word};
+ghost use Rattle.rl_drive.specs.Played.{script_length, state_at, state_lines, throws_for_run};
 
 use crate::given::{Given, nothing_given};
 use crate::text::{state_word, write, write_key, write_line, write_number};

@@ -165,7 +165,8 @@ served_sent s q = kept (IsAsked q) (is_served s (query_context s.catalogue q) (i
 
 served_asked : (s : Sight) (q : Query) → AllByRecursion (IsAsked q) (served s q)
 unfolding IsSent
-served_asked s q = first_parts (IsAsked q) (λ (name : List ℕ). is_served s (query_context s.catalogue q) (is_own s q) name ≡ true) (served s q) (served_sent s q)
+served_asked s q =
+    first_parts (IsAsked q) (λ (name : List ℕ). is_served s (query_context s.catalogue q) (is_own s q) name ≡ true) (served s q) (served_sent s q)
 
 missing_asked : (s : Sight) (q : Query) → AllByRecursion (IsAsked q) (missing s q)
 missing_asked s q =

@@ -1,5 +1,6 @@
 //! The history of a wiki, and what stands in it.
-ghost use Rattle.std.specs.Prelude.{◌≡◌, ◌≢◌, ◌+◌, ◌++◌, ◌∷◌, [], ◌<◌, ◌≤◌, length, map, fold, option_map, slice_get, Some, None};
+ghost use Rattle.std.specs.Prelude.{◌≡◌, ◌≢◌, ◌+◌, ◌++◌, ◌∷◌, [], ◌<◌, ◌≤◌, length, map, fold, option_map};
+ghost use Rattle.std.specs.Prelude.{slice_get, Some, None};
 ghost use Rattle.std.specs.Prelude.{Ok, Err, IfOk, OnErr, OnOk, IfErr, IsTrue};
 ghost use Rattle.std.specs.List.{list_all};
 ghost use Rattle.rl_names.specs.Title.{title_of};

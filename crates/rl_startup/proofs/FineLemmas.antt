@@ -1,5 +1,6 @@
 -- Rows that a registry takes and that may be written, before and after compaction.
-use Rattle.std.proofs.Common.{◌≡◌, ℕ, ◌+◌, ◌≤◌, ◌||◌, Bool, true, false, not, cond, List, [], ◌∷◌, length, map, filter, Option, Some, None}
+use Rattle.std.proofs.Common.{◌≡◌, ℕ, ◌+◌, ◌≤◌, ◌||◌, Bool, true, false, not, cond, List, [], ◌∷◌, length, map, filter}
+use Rattle.std.proofs.Common.{Option, Some, None}
 use Rattle.std.proofs.Common.{Less, nat_cmp, is_eq, nat_lt, bytes_eq, refl, sym, ap, ◌∙◌, arith}
 use Rattle.std.specs.Prelude.{flat_map}
 use Rattle.std.specs.Cmp.Lexicographic.{slice_cmp}
@@ -86,7 +87,8 @@ once_left all [] = refl
 once_left all (row ∷ rows) = rw (any_same row.name all rows, once_left all rows) refl
 
 -- a filter of dependencies leaves no bad one
-good_left : (count : ℕ) (p : Dep → Bool) (deps : List Dep) → filter_map (bad_index count) deps ≡ [] → filter_map (bad_index count) (filter p deps) ≡ []
+good_left : (count : ℕ) (p : Dep → Bool) (deps : List Dep) → filter_map (bad_index count) deps ≡ []
+    → filter_map (bad_index count) (filter p deps) ≡ []
 good_left count p [] e = refl
 good_left count p (dep ∷ deps) e = step (good_left count p deps) (p dep) (bad_index count dep) refl e
   where

@@ -1,5 +1,6 @@
 -- The modules of a wiki, and what holds of their rows.
-use Rattle.std.proofs.Common.{◌≡◌, ℕ, ◌+◌, ◌<◌, ◌≤◌, Bool, true, false, cond, List, [], ◌∷◌, ◌++◌, length, map, take, get_or, append-nil, Option, Some, None}
+use Rattle.std.proofs.Common.{◌≡◌, ℕ, ◌+◌, ◌<◌, ◌≤◌, Bool, true, false, cond, List, [], ◌∷◌, ◌++◌, length, map, take}
+use Rattle.std.proofs.Common.{get_or, append-nil, Option, Some, None}
 use Rattle.std.proofs.Common.{IsSome, bytes_eq, nat_lt, refl, sym, ap, ◌∙◌, subst, arith}
 use Rattle.std.specs.Prelude.{Contains, IfSome, option_map, option_to_list}
 use Rattle.std.specs.List.{AllByRecursion, cons_option, filter_map, position_from}
@@ -63,7 +64,8 @@ pub record Made (f : List ℕ → Option Module) (names : List (List ℕ)) (i : 
   pub fit : AreFit modules
   pub needs : NeedAtMost (limit_of counted.Dependencies) modules
 
-module _ (f : List ℕ → Option Module) (names : List (List ℕ)) (i : ℕ) (d : List ℕ) (low : i < length names) (old : List Module) (made : Made f names i old) where
+module _ (f : List ℕ → Option Module) (names : List (List ℕ)) (i : ℕ) (d : List ℕ) (low : i < length names)
+    (old : List Module) (made : Made f names i old) where
   gathered : filter_map f (take (i + 1) names) ≡ old ++ cons_option (f (get_or names i d)) []
   gathered =
       ap (filter_map f) (take_more names i d low) ∙ filter_map-append f (take i names) (get_or names i d ∷ [])

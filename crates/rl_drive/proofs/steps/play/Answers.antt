@@ -99,7 +99,8 @@ returns-clause-ready g c =
     let done = playing_all (g.O.Hears.says c.args.observers.now) c.args.registry c.args.steps.now (g.O.Hears.told c.args.observers.now)
     c.loop-step.step-index c.loop-step.player c.loop-step.text.items (g.O.Hears.told c.loop-step.observers) c.loop-step-test.false
     c.loop-step.invariant.playing in
-    none_told c.in_ok-unready.unready c.is_none.result c.is_none.ensures ∙ ap is_none (c.in_ok-unready.ensures v done.0) ∙ told_where_not_served v (reverse c.args.steps.now)
+    none_told c.in_ok-unready.unready c.is_none.result c.is_none.ensures ∙ ap is_none (c.in_ok-unready.ensures v done.0)
+    ∙ told_where_not_served v (reverse c.args.steps.now)
 
 pub returns-clause-unready : goal.returns-clause-unready
 returns-clause-unready g c =
