@@ -1,0 +1,13 @@
+//! The gadget list of a wiki: the lines of a page that define modules. What a line defines is read here; the page as a whole is
+//! defined in `specs/List.antt` and not yet read.
+#![tactic(auto)]
+
+mod cut;
+pub mod gadget;
+mod line;
+pub mod list;
+mod options;
+mod pages;
+
+pub use gadget::Gadget;
+pub use list::{GadgetList, MAX_GADGETS};
