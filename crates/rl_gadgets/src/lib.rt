@@ -8,6 +8,8 @@ mod line;
 pub mod list;
 mod options;
 mod pages;
+#[cfg(test)]
+mod tests;
 
 pub use gadget::Gadget;
 pub use list::{GadgetList, MAX_GADGETS};
