@@ -3,3 +3,4 @@ pub mod LinesLemmas
 pub mod ConcludingLemmas
 pub mod WrittenLemmas
 pub mod SpellingLemmas
+mod Worked
