@@ -1,0 +1,13 @@
+//! Parts that are kept from view to view.
+#![tactic(auto)]
+
+mod keys;
+pub mod note;
+pub mod store;
+#[cfg(test)]
+mod tests;
+mod writing;
+
+pub use note::Note;
+pub use rl_book_spec::Stored;
+pub use store::{Opened, Store, Turned};

@@ -1,0 +1,164 @@
+//! A store: parts by key, what they were made for, and their age.
+ghost use Rattle.std.specs.Prelude.{◌≡◌, ◌<◌, ◌≤◌, ◌^◌, length, option_map, option_and_then, slice_get, IsUtf8, IfOk, IfErr, IfSome, Some};
+ghost use Rattle.std.specs.List.Sorted.{IsStrictlySortedBy};
+ghost use Rattle.std.specs.Ordering.{nat_cmp};
+ghost use Rattle.std.specs.Cmp.Lexicographic.{slice_cmp};
+ghost use Rattle.rl_store.specs.Stock.{keys_of, pair_of, nothing_for, is_fresh, note_of, fitted, stock_text};
+
+use crate::keys::compare;
+use crate::note::Note;
+use crate::writing::write;
+use rl_book_spec::Stored;
+use rl_names::{Key, NoMemory, Text};
+use std::alloc::Global;
+use std::marker::Model;
+use std::str;
+
+/// Parts by key, which belong to one skin, store version and language.
+#[derive(Drop)]
+pub struct Store {
+    alloc: Global,
+    vary: Text,
+    as_of: u64,
+    pairs: Vec<Stored>,
+}
+
+impl Model for Store {
+    ghost use Rattle.rl_store.specs.Stock.{Stock, IsStock};
+
+    ghost Value = { Stock };
+
+    ghost view = { λ s. record { vary = s.vary; as_of = s.as_of; pairs = s.pairs.items } };
+
+    ghost invariant = { λ s. IsStock s.as_of s.pairs.items };
+}
+
+/// What is left of a store, and how it fitted.
+#[derive(Drop)]
+pub struct Opened {
+    pub store: Store,
+    pub note: Note,
+}
+
+/// A store that is handed back where memory ran out.
+#[derive(Drop)]
+pub struct Turned {
+    pub why: NoMemory,
+    pub store: Store,
+}
+
+/// A copy of a vary text.
+fn vary_text(alloc: Global, vary: &[u8]) -> Result<Text, NoMemory>
+    requires { IsUtf8 vary.now }
+    ensures { IfOk result (λ text. text ≡ vary.now) }
+{
+    let Ok(text) = str::from_utf8(vary) else {
+        unreachable!()
+    };
+    Text::of(alloc, text)
+}
+
+/// The place of the pair under a key, among pairs in byte order of their key texts.
+fn place_of(pairs: &[Stored], key: &Key) -> Option<usize>
+    requires { IsStrictlySortedBy (slice_cmp nat_cmp) (keys_of pairs.now) }
+    ensures found { option_and_then (slice_get pairs.now) result ≡ pair_of key.now pairs.now }
+    ensures within { IfSome result (λ at. at < length pairs.now) }
+{
+    pairs
+        .binary_search_by(|stored| compare(&stored.key, key))
+        .ok()
+}
+
+/// The pair under a key, among pairs in byte order of their key texts.
+fn find<'a>(pairs: &'a [Stored], key: &Key) -> Option<&'a Stored>
+    requires { IsStrictlySortedBy (slice_cmp nat_cmp) (keys_of pairs.now) }
+    ensures { option_map (λ stored. stored.now) result ≡ pair_of key.now pairs.now }
+{
+    let at = place_of(pairs, key)?;
+    Some(&pairs[at])
+}
+
+/// Whether a store of this age is fresh at a moment.
+fn is_fresh(as_of: u64, now: u64) -> bool
+    requires { as_of ≤ 10 ^ 12 }
+    ensures { result ≡ is_fresh as_of now }
+{
+    now < as_of * 10_000_000 + 2_590_000_000
+}
+
+impl Store {
+    /// A store that keeps nothing.
+    pub fn empty(alloc: Global, vary: &[u8]) -> Result<Store, NoMemory>
+        requires { IsUtf8 vary.now }
+        ensures { IfOk result (λ store. store ≡ nothing_for vary.now) }
+    {
+        let vary = vary_text(alloc, vary)?;
+        Ok(Store {
+            alloc,
+            vary,
+            as_of: 0,
+            pairs: Vec::new(alloc),
+        })
+    }
+
+    /// The pair under a key, of its name and its version. It is found in so many comparisons as the
+    /// logarithm of their count.
+    pub fn get(&self, key: &Key) -> Option<&Stored>
+        ensures { option_map (λ stored. stored.now) result ≡ pair_of key.now self.now.pairs }
+    {
+        find(&self.pairs, key)
+    }
+
+    /// How many pairs are kept.
+    pub fn count(&self) -> u32
+        ensures { result ≡ length self.now.pairs }
+    {
+        self.pairs.len() as u32
+    }
+
+    /// A pair, in byte order of the key texts.
+    pub fn stored_at(&self, at: u32) -> &Stored
+        requires { at < length self.now.pairs }
+        ensures { slice_get self.now.pairs at ≡ Some result.now }
+    {
+        &self.pairs[at as usize]
+    }
+
+    /// The text of the store: its age, each part's line under its key text, and what they were made for.
+    pub fn write(&self) -> Result<Text, NoMemory>
+        ensures { IfOk result (λ text. text ≡ stock_text self.now) }
+    {
+        write(self.alloc, self.as_of, &self.pairs, self.vary.as_str())
+    }
+
+    /// How a store fits what is wanted of it at a moment.
+    fn note_for(&self, vary: &[u8], now: u64) -> Note
+        ensures { result ≡ note_of self.now vary.now now }
+    {
+        if self.vary.as_bytes() != vary {
+            Note::OtherVary
+        } else if is_fresh(self.as_of, now) {
+            Note::Fresh
+        } else {
+            Note::Expired { as_of: self.as_of }
+        }
+    }
+
+    /// What is left of the store for a view of this vary text at this moment: all of it, moved, where
+    /// it is fresh, and else nothing. Where memory runs out it is handed back.
+    pub fn fit(self, vary: &[u8], now: u64) -> Result<Opened, Turned>
+        requires { IsUtf8 vary.now }
+        ensures note { IfOk result (λ opened. opened.note ≡ note_of self vary.now now) }
+        ensures store { IfOk result (λ opened. opened.store ≡ fitted (note_of self vary.now now) self vary.now) }
+        ensures handed_back { IfErr result (λ turned. turned.store ≡ self) }
+    {
+        let note = self.note_for(vary, now);
+        if let Note::Fresh = note {
+            return Ok(Opened { store: self, note });
+        }
+        match Store::empty(self.alloc, vary) {
+            Ok(store) => Ok(Opened { store, note }),
+            Err(why) => Err(Turned { why, store: self }),
+        }
+    }
+}
