@@ -12,6 +12,7 @@ pub mod MarksLemmas
 pub mod NotedLemmas
 pub mod OpenedLemmas
 pub mod OpeningLemmas
+pub mod OrderLemmas
 pub mod OthersLemmas
 pub mod PartsLemmas
 pub mod RanLemmas
@@ -22,4 +23,5 @@ pub mod ServingLemmas
 pub mod TakenLemmas
 pub mod TellingLemmas
 pub mod TookLemmas
+pub mod TurnsLemmas
 pub mod UsedLemmas

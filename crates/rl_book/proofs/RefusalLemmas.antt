@@ -2,7 +2,7 @@
 use Rattle.std.proofs.Common.{◌≡◌, ℕ, ◌+◌, ◌<◌, ◌≤◌, ◌^◌, List, [], ◌∷◌, ◌++◌, Bool, true, false, ◌&&◌, Global, Option, Some, None, length, refl, ap, sym, subst}
 use Rattle.std.proofs.Common.{◌∙◌, inr, arith, length-append}
 use Rattle.std.specs.declared.vec.Vec.{Vec}
-use Rattle.std.specs.Prelude.{if◌then◌else◌, is_some, nat_lt, vec_capacity, Result, Ok, Err}
+use Rattle.std.specs.Prelude.{if◌then◌else◌, is_some, nat_lt, vec_capacity, Result, Err}
 use Rattle.std.specs.Option.{option_map_or}
 use Rattle.rl_view_spec.specs.Closure.{Text}
 use Rattle.rl_view_spec.specs.Progress.{Progress}
@@ -13,7 +13,7 @@ use Rattle.rl_wire.specs.declared.part.Part.{Part}
 use Rattle.rl_batch.specs.Requests.{MayBeLost, open_count}
 use Rattle.rl_book_spec.specs.Book.{bring, delivery, event_of, given_up, loss, nothing}
 use Rattle.rl_book_spec.specs.Given.{given_in}
-use Rattle.rl_book_spec.specs.Kept.{Booked, IsStage, events_in, is_due, is_quiet, rows_run, threw_in, traffic_in, view_in}
+use Rattle.rl_book_spec.specs.Kept.{Booked, events_in, is_quiet, rows_run, threw_in, view_in}
 use Rattle.rl_book_spec.specs.Opening.{Opening}
 use Rattle.rl_book_spec.specs.Traffic as spec
 use Rattle.rl_book_spec.specs.Traffic.{Traffic, after_loss, asked_of, may_be_lost, with_loss}

@@ -4,6 +4,7 @@ pub mod Delivering
 pub mod Errors
 pub mod Kept
 pub mod Opens
+pub mod Order
 pub mod Reads
 pub mod Requesting
 pub mod Serving

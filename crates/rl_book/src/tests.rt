@@ -2,6 +2,8 @@
 ghost use Rattle.std.specs.Prelude.{IfOk};
 ghost use Rattle.rl_batch.specs.Given.{IsBase};
 
+mod book;
+
 use crate::{DeliverError, LoseRefusal, Lost, Mark, OpenError, Plan, Took, Visit};
 use rl_base::Hears;
 use rl_names::{Blob, Key, NoMemory, Only, Query, Seq, Text};

@@ -1,4 +1,4 @@
-use Rattle.std.proofs.Common.{◌++◌, ◌∷◌, [], ℕ, ◌<◌, List, length, refl, ap, sym, subst, ◌∙◌, arith}
+use Rattle.std.proofs.Common.{◌++◌, ◌∷◌, [], ◌<◌, List, length, refl, ap, sym, subst, ◌∙◌, arith}
 use Rattle.rl_book_spec.specs.Kept.{traffic_in}
 use Rattle.rl_book_spec.specs.Traffic.{Traffic}
 use Rattle.rl_book_spec.specs.declared.Call.{Call}

@@ -1,9 +1,6 @@
-use Rattle.std.proofs.Common.{◌≡◌, ◌++◌, ◌∷◌, [], ℕ, List, length, refl, ap, sym, subst, ◌∙◌, arith}
-use Rattle.rl_book_spec.specs.Traffic.{Traffic}
+use Rattle.std.proofs.Common.{◌++◌, ◌∷◌, [], List, length, refl, ap, ◌∙◌, arith}
 use Rattle.rl_book_spec.specs.declared.Call.{Call}
 use Rattle.rl_book_spec.specs.declared.Call.TheVariants.{Deliver}
-use Rattle.rl_book.specs.Calls.{losses_at}
-use Rattle.rl_book.specs.Kept.{IsKept}
 use Rattle.rl_book.proofs.CallsLemmas.{idle_kept, third_within}
 use Rattle.rl_book.proofs.NotedLemmas.{still_kept}
 use Rattle.rl_book.proofs.RefusalLemmas.{refusal_kept}
