@@ -14,3 +14,4 @@ mod texts;
 pub use answers::{Answer, AnswerError, Kind};
 pub use embedding::embed;
 pub use requests::{answer, read_context, read_query};
+pub use serving::names_viewer;

@@ -21,7 +21,7 @@ fn is_viewer(viewer: &Viewer, other: &Viewer) -> bool
 
 /// Whether a query's `user` names the viewer. An empty one names nobody, and what is no user's name
 /// names no viewer.
-pub(crate) fn names_viewer(alloc: Global, viewer: &Viewer, user: &str) -> Result<bool, NoMemory>
+pub fn names_viewer(alloc: Global, viewer: &Viewer, user: &str) -> Result<bool, NoMemory>
     ensures { IfOk result (λ own. own ≡ names_viewer_of viewer.now user.now) }
 {
     match Viewer::read(alloc, user.as_bytes()) {

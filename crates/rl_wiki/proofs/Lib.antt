@@ -1,3 +1,4 @@
 pub mod DeskLemmas
+pub mod FrontLemmas
 pub mod OpeningLemmas
 pub mod AnsweringLemmas

@@ -1,3 +1,4 @@
 pub mod Desk
+pub mod Front
 pub mod Opening
 pub mod Wiki

@@ -3,6 +3,7 @@
 
 pub mod desk;
 pub mod error;
+mod front;
 mod opening;
 #[cfg(test)]
 mod tests;

@@ -313,3 +313,51 @@ fn startup_texts(rt: HostRuntime) -> Result<(), Fail> {
     assert!(rt; starts_as_wanted(alloc, &wiki, &desk)?);
     Ok(())
 }
+
+/// The startup text of a user, or of nobody, in the context that a query has by itself.
+fn startup_for(alloc: Global, wiki: &Wiki, by: &[u8]) -> Result<Text, Fail> {
+    let viewer = Viewer::read(alloc, by)?;
+    let ctx = Context::read(alloc, wiki.catalog(), b"en", b"", false)?;
+    Ok(wiki.startup(alloc, &viewer, &ctx)?)
+}
+
+/// The body of what Ann is answered.
+fn body_for_ann(alloc: Global, wiki: &Wiki, query: &str) -> Result<Text, Fail> {
+    let viewer = Viewer::read(alloc, b"Ann")?;
+    let answer = wiki.answer(alloc, &viewer, query.as_bytes())?;
+    Ok(answer.body)
+}
+
+/// Queries by Ann: whether each is answered by nobody's startup text, and whether by her own.
+const STARTUPS: [(&str, bool, bool); 7] = [
+    ("modules=startup&only=scripts", true, false),
+    ("modules=startup|startup&only=scripts", true, false),
+    ("modules=startup&only=scripts&user=Ann", false, true),
+    ("modules=startup&only=scripts&user=Ben", true, false),
+    ("modules=startup,user&only=scripts&user=Ann", false, false),
+    ("modules=startup&only=styles&user=Ann", false, false),
+    ("modules=startup&user=Ann", false, false),
+];
+
+/// Whether each is answered so.
+fn startups_as_wanted(alloc: Global, wiki: &Wiki) -> Result<bool, Fail> {
+    let nobodys = startup_for(alloc, wiki, b"")?;
+    let anns = startup_for(alloc, wiki, b"Ann")?;
+    let mut same = nobodys.as_str() != anns.as_str();
+    for (query, nobody, ann) in &STARTUPS {
+        let body = body_for_ann(alloc, wiki, query)?;
+        same = same
+            && (body.as_str() == nobodys.as_str()) == *nobody
+            && (body.as_str() == anns.as_str()) == *ann;
+    }
+    Ok(same)
+}
+
+#[test]
+fn answered_by_the_startup_text(rt: HostRuntime) -> Result<(), Fail> {
+    let mut wiki = opened_wiki(rt.alloc())?;
+    let edited = edit_three(rt.alloc(), &mut wiki);
+    assert!(rt; edited == Ok(()));
+    assert!(rt; startups_as_wanted(rt.alloc(), &wiki)?);
+    Ok(())
+}

@@ -1,5 +1,5 @@
 //! A wiki that is kept nowhere.
-ghost use Rattle.std.specs.Prelude.{◌≡◌, [], length, IfOk, List, Ok, None};
+ghost use Rattle.std.specs.Prelude.{◌≡◌, [], length, IfOk, List, Ok, None, true, false};
 ghost use Rattle.rl_names.specs.Meant.{Gives};
 ghost use Rattle.rl_names.specs.Query.{query_of};
 ghost use Rattle.rl_pages.specs.declared.entry.Entry.{Entry};
@@ -9,16 +9,18 @@ ghost use Rattle.rl_pages.specs.Seen.{seen};
 ghost use Rattle.rl_view_spec.specs.Breach.{breach_of};
 ghost use Rattle.rl_wire.specs.StartupReading.{startup_of};
 ghost use Rattle.rl_build.specs.Sight.{sight};
-ghost use Rattle.rl_loadphp.specs.Answer.{answer_of};
 ghost use Rattle.rl_loadphp.specs.Embed.{embed_of, IsOfParts};
 ghost use Rattle.rl_loadphp.specs.Refusal.{refusal_told};
 ghost use Rattle.rl_loadphp.specs.Sent.{IsMadeOfPieces, SaysParts};
+ghost use Rattle.rl_loadphp.specs.Served.{query_context};
 ghost use Rattle.rl_startup.specs.Registry.{start_of, startup_text_of};
+ghost use Rattle.rl_wiki.specs.Front.{asks_startup, reader_of, wiki_answer};
 ghost use Rattle.rl_wiki.specs.Wiki.{Chooses, Edits};
 
+use crate::front::wiki_answer;
 use rl_build::Context;
 use rl_defs::Catalog;
-use rl_loadphp::{Answer, AnswerError, answer, embed};
+use rl_loadphp::{Answer, AnswerError, embed};
 use rl_names::{NoMemory, Seq, Text};
 use rl_pages::{ChoiceError, EditError, Pages, Policy, Viewer};
 use rl_startup::startup_text;
@@ -115,26 +117,33 @@ impl Wiki {
         Ok(self.pages.commit(entry))
     }
 
-    /// The answer to the bytes of a query.
+    /// The answer to the bytes of a query: the startup text where that is all that the query asks for, of the viewer where the
+    /// query names them as its user, and else of nobody; what the modules bring that it names, in any other query.
     pub fn answer(
         &self,
         alloc: Global,
         viewer: &Viewer,
         query: &[u8],
     ) -> Result<Answer, AnswerError>
-        ensures answer { Gives refusal_told result (answer_of (sight self.now.catalogue self.now.entries viewer.now) query.now) }
+        ensures answer { Gives refusal_told result (wiki_answer self.now.catalogue self.now.entries viewer.now query.now) }
 
-        // Nothing of a private module is sent, nor of one that another wiki serves, nor of another user's.
-        ensures pieces { IfOk result (λ a. IsMadeOfPieces (sight self.now.catalogue self.now.entries viewer.now) (query_of query.now) a.body) }
+        // But for a startup text, nothing of a private module is sent, nor of one that another wiki serves, nor of another user's.
+        ensures pieces { IfOk result (λ a. asks_startup (query_of query.now) ≡ false
+            → IsMadeOfPieces (sight self.now.catalogue self.now.entries viewer.now) (query_of query.now) a.body) }
 
         // Of an answer without `only` a reader gets parts.
         ensures parts { IfOk result (λ a. SaysParts (query_of query.now) a.body) }
 
+        // Of a startup text a client reads back what it starts from.
+        ensures again { IfOk result (λ a. asks_startup (query_of query.now) ≡ true → startup_of a.body
+            ≡ Ok (start_of (sight self.now.catalogue self.now.entries (reader_of viewer.now (query_of query.now)))
+            (query_context self.now.catalogue (query_of query.now)))) }
+
         // What the viewer does not see of the history changes nothing.
         ensures isolation { (others : List Entry) → seen viewer.now self.now.entries ≡ seen viewer.now others
-            → Gives refusal_told result (answer_of (sight self.now.catalogue others viewer.now) query.now) }
+            → Gives refusal_told result (wiki_answer self.now.catalogue others viewer.now query.now) }
     {
-        answer(alloc, &self.catalog, &self.pages, viewer, query)
+        wiki_answer(alloc, &self.catalog, &self.pages, viewer, query)
     }
 
     /// The text that is embedded in a page of the viewer: the private modules, in byte order of their names.
