@@ -1,0 +1,23 @@
+//! The wiki over HTTP: heads of requests, routes, answers, and one connection served.
+#![tactic(auto)]
+
+pub mod answers;
+pub mod forms;
+pub mod heads;
+pub mod numbers;
+pub mod reading;
+pub mod refusals;
+pub mod replies;
+pub mod routes;
+pub mod routing;
+pub mod writing;
+
+pub use heads::{Head, HeadRead};
+pub use reading::read_head;
+pub use refusals::Refusal;
+pub use replies::reply_to;
+pub use routes::Route;
+pub use routing::{Routes, route};
+
+#[cfg(test)]
+mod tests;
