@@ -92,7 +92,11 @@ fn entries_in_memory(rt: &HostRuntime, more: u64) -> Result<u64> {
 fn main(rt: HostRuntime) -> Result<()> {
     let words = env::args(&rt)?.skip(1).collect::<Vec<String>>(rt.alloc())?;
     match words.as_slice() {
-        [kind, file, more] if kind.as_str() == "append" => append_to(&rt, file.as_str(), more.parse::<u64>()?),
+        [kind, file, more] if kind.as_str() == "append" => append_to(
+            &rt,
+            file.as_str(),
+            more.parse::<u64>()?,
+        ),
         [kind, file] if kind.as_str() == "open" => {
             println!(rt; "{}", revisions_in(&rt, file.as_str())?)?;
             Ok(())
