@@ -1,6 +1,7 @@
 //! Parts that are kept from view to view.
 #![tactic(auto)]
 
+mod copying;
 mod keys;
 pub mod note;
 pub mod store;

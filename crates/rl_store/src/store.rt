@@ -5,6 +5,7 @@ ghost use Rattle.std.specs.Ordering.{nat_cmp};
 ghost use Rattle.std.specs.Cmp.Lexicographic.{slice_cmp};
 ghost use Rattle.rl_store.specs.Stock.{keys_of, pair_of, nothing_for, is_fresh, note_of, fitted, stock_text};
 
+use crate::copying::copy_pairs;
 use crate::keys::compare;
 use crate::note::Note;
 use crate::writing::write;
@@ -129,6 +130,20 @@ impl Store {
         ensures { IfOk result (λ text. text ≡ stock_text self.now) }
     {
         write(self.alloc, self.as_of, &self.pairs, self.vary.as_str())
+    }
+
+    /// An equal store, with equal wire numbers.
+    pub fn copy(&self) -> Result<Store, NoMemory>
+        ensures { IfOk result (λ store. store ≡ self.now) }
+    {
+        let vary = self.vary.copy()?;
+        let pairs = copy_pairs(self.alloc, &self.pairs)?;
+        Ok(Store {
+            alloc: self.alloc,
+            vary,
+            as_of: self.as_of,
+            pairs,
+        })
     }
 
     /// How a store fits what is wanted of it at a moment.

@@ -36,6 +36,20 @@ fn keeps_nothing(alloc: Global, key: &str) -> bool {
     }
 }
 
+/// Whether the copy of a store that keeps nothing has this text.
+fn copies_to(alloc: Global, text: &str) -> bool {
+    let Ok(store) = Store::empty(alloc, b"vector|1|en") else {
+        return false;
+    };
+    let Ok(copy) = store.copy() else {
+        return false;
+    };
+    match copy.write() {
+        Ok(written) => written.as_str() == text,
+        Err(_) => false,
+    }
+}
+
 #[test]
 fn fitting(rt: HostRuntime) {
     let alloc = rt.alloc();
@@ -49,4 +63,10 @@ fn store_text(rt: HostRuntime) {
     let alloc = rt.alloc();
     assert!(rt; is_text_of_nothing(alloc, "{\"asOf\":0,\"items\":{},\"vary\":\"vector|1|en\"}"));
     assert!(rt; keeps_nothing(alloc, "a@aaaaa"));
+}
+
+#[test]
+fn copying(rt: HostRuntime) {
+    let alloc = rt.alloc();
+    assert!(rt; copies_to(alloc, "{\"asOf\":0,\"items\":{},\"vary\":\"vector|1|en\"}"));
 }
