@@ -1,3 +1,4 @@
 pub mod CutLemmas
 pub mod OptionLemmas
 mod Worked
+mod RowLemmas

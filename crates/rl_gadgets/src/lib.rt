@@ -1,5 +1,4 @@
-//! The gadget list of a wiki: the lines of a page that define modules. What a line defines is read here; the page as a whole is
-//! defined in `specs/List.antt` and not yet read.
+//! The gadget list of a wiki: the lines of a page that define modules.
 #![tactic(auto)]
 
 mod cut;
@@ -12,4 +11,4 @@ mod pages;
 mod tests;
 
 pub use gadget::Gadget;
-pub use list::{GadgetList, MAX_GADGETS};
+pub use list::{GadgetList, MAX_GADGETS, read_gadgets};

@@ -1,6 +1,7 @@
 //! Lines with ample memory.
 use crate::gadget::Gadget;
 use crate::line::gadget_in;
+use crate::list::{GadgetList, read_gadgets};
 use rl_names::{Name, Text, Title};
 use std::alloc::Global;
 use std::test::Fail;
@@ -78,5 +79,74 @@ fn lines(rt: HostRuntime) -> Result<(), Fail> {
         let got = line(alloc, text)?;
         assert_eq!(rt; got.as_str(), want, "at {text}");
     }
+    Ok(())
+}
+
+/// The names and lines of the rows, and the numbers of the lines passed over.
+fn told(alloc: Global, list: &GadgetList) -> Result<String, Fail> {
+    let mut out = String::new(alloc);
+    for row in list.rows.as_slice() {
+        let name = row.name.as_str();
+        let line = row.line;
+        let row = format!(in alloc; "{name}:{line} ")?;
+        out.push_str(row.as_str())?;
+    }
+    for number in list.passed.as_slice() {
+        let number = format!(in alloc; "-{number} ")?;
+        out.push_str(number.as_str())?;
+    }
+    Ok(out)
+}
+
+fn read(alloc: Global, page: &str) -> Result<String, Fail> {
+    let list = read_gadgets(alloc, page.as_bytes())?;
+    told(alloc, &list)
+}
+
+/// How many rows there are, and how many lines were passed over.
+fn counts(alloc: Global, page: &str) -> Result<(usize, usize), Fail> {
+    let list = read_gadgets(alloc, page.as_bytes())?;
+    Ok((list.rows.as_slice().len(), list.passed.as_slice().len()))
+}
+
+/// A page of so many gadgets.
+fn page_of(alloc: Global, count: u32) -> Result<String, Fail> {
+    let mut page = String::new(alloc);
+    for n in 0..count {
+        let line = format!(in alloc; "*g{n}[ResourceLoader]|a.js\n")?;
+        page.push_str(line.as_str())?;
+    }
+    Ok(page)
+}
+
+#[test]
+fn pages(rt: HostRuntime) -> Result<(), Fail> {
+    let alloc = rt.alloc();
+    for (page, want) in [
+        ("", ""),
+        (
+            "== A ==\n** B [ResourceLoader] | B.js\r\n * C\n*D",
+            "ext.gadget.B:2 -4 ",
+        ),
+        (
+            "*A|A.js\n*A[ResourceLoader]|A.js\n*A[ResourceLoader]|A.css",
+            "ext.gadget.A:2 -1 -3 ",
+        ),
+    ] {
+        let got = read(alloc, page)?;
+        assert_eq!(rt; got.as_str(), want, "at {page}");
+    }
+    Ok(())
+}
+
+#[test]
+fn most_rows(rt: HostRuntime) -> Result<(), Fail> {
+    let alloc = rt.alloc();
+    let page = page_of(alloc, 500)?;
+    let full = counts(alloc, page.as_str())?;
+    assert_eq!(rt; full, (500, 0));
+    let page = page_of(alloc, 501)?;
+    let over = counts(alloc, page.as_str())?;
+    assert_eq!(rt; over, (500, 1));
     Ok(())
 }
