@@ -7,8 +7,7 @@
 use anyhow::{Result, bail};
 use rl_wire::read_answer;
 use std::alloc::Global;
-use std::env;
-use std::fs;
+use std::{env, fs};
 
 /// An answer of one part.
 const ONE: &[u8] = b"mw.loader.state({\"zz\":\"missing\"});\n";
