@@ -1,16 +1,14 @@
 //! Keeps entries in a database, for a benchmark and for a test that kills it.
 //!
 //! The words are `append FILE COUNT`, `open FILE` or `try COUNT`. `append` prints the number of each entry once its append
-//! has returned; `open` makes a desk over what the file keeps and prints how many revisions it has; `try` appends to a
-//! database in memory and prints how many entries it keeps.
+//! has returned; `open` reads all that the file keeps and prints how many entries there are; `try` appends to a database
+//! in memory and prints how many it keeps.
 #![tactic(auto)]
 
 use anyhow::{Result, bail};
-use rl_defs::Catalog;
 use rl_keeper::{Keeper, SqlKeeper};
 use rl_names::{Text, Title};
 use rl_pages::Entry;
-use rl_wiki::Desk;
 use sqlite::{Alter, Connection};
 use std::alloc::Global;
 use std::env;
@@ -72,14 +70,12 @@ fn append_to(rt: &HostRuntime, file: &str, more: u64) -> Result<()> {
     Ok(())
 }
 
-/// How many revisions a desk over the database of a file has.
-fn revisions_in(rt: &HostRuntime, file: &str) -> Result<u64> {
-    let keeper = SqlKeeper::over(rt.alloc(), Connection::open(rt, file)?)?;
-    let catalog = Catalog::read(rt.alloc(), b"")?;
-    match Desk::open(rt.alloc(), keeper, catalog) {
-        Ok(desk) => Ok(desk.revisions()),
-        Err(turned) => bail!("{}", turned.why),
-    }
+/// How many entries the database of a file keeps, all of them read.
+fn entries_in(rt: &HostRuntime, file: &str) -> Result<u64> {
+    let mut keeper = SqlKeeper::over(rt.alloc(), Connection::open(rt, file)?)?;
+    let there = count(&mut keeper)?;
+    keeper.db.close()?;
+    Ok(there)
 }
 
 /// How many entries a database in memory has after so many appends.
@@ -98,7 +94,7 @@ fn main(rt: HostRuntime) -> Result<()> {
             more.parse::<u64>()?,
         ),
         [kind, file] if kind.as_str() == "open" => {
-            println!(rt; "{}", revisions_in(&rt, file.as_str())?)?;
+            println!(rt; "{}", entries_in(&rt, file.as_str())?)?;
             Ok(())
         }
         [kind, more] if kind.as_str() == "try" => {
