@@ -16,11 +16,14 @@ const VERSION: &str = "loader 0.1.0\n";
 const HELP: &str = "\
 loader: both ends of a wiki's loader of scripts
 
-  loader drive SCRIPT                 what the client does with the rows, requests and parts of a script
-  loader load DEFS - - QUERY          what a wiki of these definitions answers to a query
-  loader startup DEFS - - LANG SKIN   what a client of this wiki starts from, in a language and with a skin
-  loader --help                       this text
-  loader --version                    the version of the program
+  loader drive SCRIPT                            what the client does with the rows, requests and parts of a script
+  loader load DEFS PAGES VIEWER QUERY            what a wiki answers to a query of a viewer
+  loader startup DEFS PAGES VIEWER LANG SKIN     what a client of a viewer starts from, in a language and with a skin
+  loader --help                                  this text
+  loader --version                               the version of the program
+
+DEFS is the wiki's file of definitions, PAGES a file of edits and options, or - for none, and VIEWER the
+name of a user, or - for nobody.
 
 Before the words of a command there may be options, any number of times:
 

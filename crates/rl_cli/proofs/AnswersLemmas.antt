@@ -87,7 +87,10 @@ pub too_large : (throws : Throws) (told : Option Files) (words : List Text) (end
     end.status ≡ statuses.TooLarge counted.FileBytes count → IsLongFile told words end.word count
 too_large throws told words end old new heard heard' a count e =
     elim a [
-      | inl bad ↦ absurd (not_file end.status count (along IsNotFile end (plain statuses.BadWords) bad.1 tt) e)
+      | inl bad ↦ elim bad.1 [
+        | inl no_command ↦ absurd (not_file end.status count (along IsNotFile end (plain statuses.BadWords) no_command tt) e)
+        | inr memory ↦ absurd (not_file end.status count (along IsNotFile end (plain statuses.NoMemory) memory tt) e)
+      ]
       | inr good ↦ of_command good.0 good.1
           good.2
     ]
@@ -333,7 +336,11 @@ pub complete : (throws : Throws) (told : Option Files) (words : List Text) (end 
 complete throws None words end old new heard heard' faults faults' out out' blamed a r w = tt
 complete throws (Some files) words end old new heard heard' faults faults' out out' blamed a r w =
     λ q q'. elim a [
-      | inl bad ↦ inr (bad.1 ∙ sym (ap (λ (o : Option Command). option_map_or (command_end throws files words) o (plain statuses.BadWords)) bad.0))
+      | inl bad ↦ elim bad.1 [
+        | inl no_command ↦ inr (no_command ∙ sym
+            (ap (λ (o : Option Command). option_map_or (command_end throws files words) o (plain statuses.BadWords)) bad.0))
+        | inr memory ↦ inl memory
+      ]
       | inr good ↦ of_command q q' good.0 good.1 good.2
     ]
   where

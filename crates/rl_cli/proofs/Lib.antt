@@ -1,3 +1,4 @@
+pub mod PagesLemmas
 pub mod AnswersLemmas
 pub mod FetchedLemmas
 pub mod FilesLemmas

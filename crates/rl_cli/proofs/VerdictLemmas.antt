@@ -1,5 +1,5 @@
 -- What a verdict counts is never the size of a file.
-use Rattle.std.proofs.Common.{◌≡◌, ◌≢◌, ℕ, Bool, true, false, List, [], length, Option, Some, None, refl, ap, sym, subst, ◌∙◌}
+use Rattle.std.proofs.Common.{◌≡◌, ◌≢◌, ℕ, Bool, true, false, List, length, Option, Some, None, refl, ap, sym, subst, ◌∙◌}
 use Rattle.std.specs.Prelude.{if◌then◌else◌, nat_lt, option_map, slice_get, Result, Ok, Err}
 use Rattle.std.specs.Option.{option_map_or}
 use Rattle.std.specs.Str.{is_utf8}
@@ -17,12 +17,16 @@ use Rattle.rl_defs.specs.Breach.{reading}
 use Rattle.rl_defs.specs.Catalogue.{Catalogue}
 use Rattle.rl_defs.specs.Refusal as definitions
 use Rattle.rl_defs.proofs.CountingLemmas.{IsOfDefinitions, IsOfReading, reading_is_of_definitions}
-use Rattle.rl_pages.specs.declared.viewer.Viewer.TheVariants.{Anon}
-use Rattle.rl_build.specs.Sight.{sight}
-use Rattle.rl_loadphp.specs.Answer.{answer_of}
+use Rattle.rl_pages.specs.declared.viewer.Viewer.{Viewer}
+use Rattle.rl_script.specs.declared.script.ScriptError.{ScriptError}
+use Rattle.rl_script.specs.declared.script.ScriptError.TheVariants as pages
+use Rattle.rl_steps.specs.declared.step.Step.{Step}
+use Rattle.rl_wiki.specs.Front.{wiki_answer}
+use Rattle.rl_wiki.specs.Wiki.{WikiState}
 use Rattle.rl_loadphp.specs.Refusal as query
 use Rattle.rl_loadphp.specs.declared.answers.Answer.{Answer}
-use Rattle.rl_cli.specs.Verdict.{Verdict, of_query, Fault as Refused, Exceeds, of_script, of_breach, of_answer, of_reading, of_start, file_at, verdict_on}
+use Rattle.rl_cli.specs.Verdict.{Verdict, of_query, Fault as Refused, Exceeds, of_script, of_breach, of_answer, of_lines, file_at, verdict_on}
+use Rattle.rl_cli.specs.Verdict.{of_load, of_start, steps_in, wiki_in, wiki_with}
 use Rattle.rl_cli.specs.Words.{Command, Drive, Load, Startup}
 
 abbrev IsOfContent : script.Verdict → Type 0
@@ -85,18 +89,36 @@ answer_of_work place (Err (query.QueryTooLong len)) = λ e. cc
 answer_of_work place (Err (query.TooManyNames count)) = λ e. cc
 answer_of_work place (Err (query.AnswerTooLong len)) = λ e. cc
 
-reading_of_work : (asked : Text) (r : Result Catalogue definitions.Refusal) → IsOfReading r → IsOfWork (of_reading asked r)
-reading_of_work asked (Ok catalogue) h = answer_of_work 4 (answer_of (sight catalogue [] Anon) asked)
-reading_of_work asked (Err refusal) h = breach_of_work 1 refusal h
+lines_of_work : (place : ℕ) (why : ScriptError) → IsOfWork (Err (of_lines place why))
+lines_of_work place (pages.BadLine line why) = tt
+lines_of_work place (pages.TooMany count) = λ e. cc
+lines_of_work place pages.NoMemory = tt
 
-start_of_work : (lang skin : Text) (r : Result Catalogue definitions.Refusal) → IsOfReading r → IsOfWork (of_start lang skin r)
-start_of_work lang skin (Ok catalogue) h = tt
-start_of_work lang skin (Err refusal) h = breach_of_work 1 refusal h
+-- why there is no wiki is of work
+abbrev IsOfWiki : Result WikiState Refused → Type 0
+IsOfWiki (Ok wiki) = Unit {0}
+IsOfWiki (Err fault) = IsOfWork (Err fault)
+
+wiki_of_work : (read : Result Catalogue definitions.Refusal) (steps : Result (List Step) ScriptError) → IsOfReading read → IsOfWiki (wiki_with read steps)
+wiki_of_work (Ok catalogue) (Ok steps) h = tt
+wiki_of_work (Ok catalogue) (Err why) h = lines_of_work 2 why
+wiki_of_work (Err refusal) steps h = breach_of_work 1 refusal h
+
+load_of_work : (viewer : Viewer) (asked : Text) (wiki : Result WikiState Refused) → IsOfWiki wiki → IsOfWork (of_load viewer asked wiki)
+load_of_work viewer asked (Ok wiki) h = answer_of_work 4 (wiki_answer wiki.catalogue wiki.entries viewer asked)
+load_of_work viewer asked (Err fault) h = h
+
+start_of_work : (viewer : Viewer) (lang skin : Text) (wiki : Result WikiState Refused) → IsOfWiki wiki → IsOfWork (of_start viewer lang skin wiki)
+start_of_work viewer lang skin (Ok wiki) h = tt
+start_of_work viewer lang skin (Err fault) h = h
+
+files_of_work : (paged : Bool) (files : List Text) → IsOfWiki (wiki_in paged files)
+files_of_work paged files = wiki_of_work (reading (file_at files 0)) (steps_in paged files) (reading_is_of_definitions (file_at files 0))
 
 pub is_of_work : (throws : Throws) (command : Command) (files : List Text) → IsOfWork (verdict_on throws command files)
 is_of_work throws Drive files = script_of_work 1 (unready_in throws (file_at files 0)) (verdict_of throws (file_at files 0)) (is_of_content throws (file_at files 0))
-is_of_work throws (Load asked) files = reading_of_work asked (reading (file_at files 0)) (reading_is_of_definitions (file_at files 0))
-is_of_work throws (Startup lang skin) files = start_of_work lang skin (reading (file_at files 0)) (reading_is_of_definitions (file_at files 0))
+is_of_work throws (Load paged viewer asked) files = load_of_work viewer asked (wiki_in paged files) (files_of_work paged files)
+is_of_work throws (Startup paged viewer lang skin) files = start_of_work viewer lang skin (wiki_in paged files) (files_of_work paged files)
 
 -- ---- a refusal that is told
 
@@ -120,13 +142,13 @@ script_printed place unready told v text shown ready e same whole =
 
 -- the refusal of a query, told as a fault of its word
 pub query_refused :
-    (asked : Text) (read : Result Catalogue definitions.Refusal) (catalogue : Catalogue) (told : Option query.Refusal)
-    (fault : Option Refused) → read ≡ Ok catalogue
-    → ((refusal : query.Refusal) → told ≡ Some refusal → answer_of (sight catalogue [] Anon) asked ≡ Err refusal)
-    → fault ≡ option_map (of_query 4) told → (refusal : Refused) → fault ≡ Some refusal → of_reading asked read ≡ Err refusal
-query_refused asked read catalogue None fault e h f refusal is =
+    (viewer : Viewer) (asked : Text) (made : Result WikiState Refused) (wiki : WikiState) (told : Option query.Refusal)
+    (fault : Option Refused) → made ≡ Ok wiki
+    → ((refusal : query.Refusal) → told ≡ Some refusal → wiki_answer wiki.catalogue wiki.entries viewer asked ≡ Err refusal)
+    → fault ≡ option_map (of_query 4) told → (refusal : Refused) → fault ≡ Some refusal → of_load viewer asked made ≡ Err refusal
+query_refused viewer asked made wiki None fault e h f refusal is =
     let none : None ≡ Some refusal = sym f ∙ is in absurd (cc)
-query_refused asked read catalogue (Some r) fault e h f refusal is =
-    let answer : answer_of (sight catalogue [] Anon) asked ≡ Err r = h r refl in
-    subst (λ (x : Refused). of_reading asked read ≡ Err x) (same_fault (of_query 4 r) refusal (sym f ∙ is))
-    (ap (of_reading asked) e ∙ ap (of_answer 4) answer)
+query_refused viewer asked made wiki (Some r) fault e h f refusal is =
+    let answer : wiki_answer wiki.catalogue wiki.entries viewer asked ≡ Err r = h r refl in
+    subst (λ (x : Refused). of_load viewer asked made ≡ Err x) (same_fault (of_query 4 r) refusal (sym f ∙ is))
+    (ap (of_load viewer asked) e ∙ ap (of_answer 4) answer)

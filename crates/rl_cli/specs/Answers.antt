@@ -57,10 +57,10 @@ AnswersCommand throws told words command end old new heard heard' =
     ⊎ ((files : List Text) × AreFiles told (names_at words (files_of command)) files × AnswersVerdict (verdict_on throws command files) end old new
     × AreHeard end.status (executed_by throws command files) heard heard')
 
--- By the words. They are no command's, or those of one.
+-- By the words. They are no command's, or memory ran out before that was known, or they are those of one.
 abbrev pub Answers : Throws → Option Files → List Text → Ending → Option Text → Option Text → Heard → Heard → Type 0
 Answers throws told words end old new heard heard' =
-    ((command_of words ≡ None) × (end ≡ plain statuses.BadWords) × (new ≡ old) × (heard' ≡ heard))
+    ((command_of words ≡ None) × ((end ≡ plain statuses.BadWords) ⊎ (end ≡ plain statuses.NoMemory)) × (new ≡ old) × (heard' ≡ heard))
     ⊎ ((command : Command) × (command_of words ≡ Some command) × AnswersCommand throws told words command end old new heard heard')
 
 -- the word names a file that is too long, those before it were read, and one byte more than it may have was read

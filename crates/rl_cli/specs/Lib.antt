@@ -3,6 +3,7 @@ pub mod Code
 pub mod Ending
 pub mod Files
 pub mod Meant
+pub mod Pages
 pub mod Spelt
 pub mod Stops
 pub mod Told

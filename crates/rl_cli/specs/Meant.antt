@@ -5,5 +5,5 @@ use Rattle.rl_cli.specs.declared.words.Command.TheVariants.{Drive, Load, Startup
 
 abbrev pub meant : Command → words.Command
 meant Drive = words.Drive
-meant (Load query) = words.Load query.now
-meant (Startup lang skin) = words.Startup lang.now skin.now
+meant (Load paged viewer query) = words.Load paged viewer query.now
+meant (Startup paged viewer lang skin) = words.Startup paged viewer lang.now skin.now

@@ -1,5 +1,5 @@
 //! The top call.
-ghost use Rattle.std.specs.Prelude.{◌≡◌, ◌↔◌, ◌≤◌, ℕ, List, None, Ok, length, map};
+ghost use Rattle.std.specs.Prelude.{◌≡◌, ◌⊎◌, ◌≤◌, ℕ, List, None, Ok, length, map};
 ghost use Rattle.std.specs.List.{list_any};
 ghost use Rattle.rl_names.specs.declared.name.Key.{Key};
 ghost use Rattle.rl_base.specs.Causes.{Rose};
@@ -18,7 +18,7 @@ use crate::status::{Ended, Status};
 use crate::words::Command;
 use crate::work::{Printed, work};
 use rl_base::{Hears, Observer, Sink, SinkError, Tree};
-use rl_names::{Blob, Counted, MAX_FILE_BYTES};
+use rl_names::{Blob, Counted, MAX_FILE_BYTES, NoMemory};
 use std::alloc::Global;
 
 /// Does what the words say: reads the words, fetches each file that they name and checks its size, does
@@ -37,7 +37,8 @@ pub fn run<T: Tree, O: Sink>(
     ensures throws_stay { (k : Key) (s : List ℕ) → map (λ o. throws o k s) result.observers.items ≡ map (λ o. throws o k s) observers.items }
 
     // How the call ends, what it wrote and what was heard of, by the words and the bytes of the files that they name.
-    ensures bad_words { (result.status ≡ Status.BadWords) ↔ (command_of (texts words.now) ≡ None) }
+    ensures bad_words { result.status ≡ Status.BadWords → command_of (texts words.now) ≡ None }
+    ensures no_command { command_of (texts words.now) ≡ None → (result.status ≡ Status.BadWords) ⊎ (result.status ≡ Status.NoMemory) }
     ensures answer { Answers (throws_by (λ k s. list_any (λ o. throws o k s) observers.items))
         (T.files tree.old) (texts words.now) (ending result.status result.word result.breach result.unready) (O.written out.old) (O.written out.new)
         (map (λ o. ran o) observers.items) (map (λ o. ran o) result.observers.items) }
@@ -100,8 +101,10 @@ fn end_of<T: Tree, O: Sink, H: Hears>(
     ensures tree_never_falls { T.faults tree.old ≤ T.faults tree.new }
     ensures out_never_falls { O.faults out.old ≤ O.faults out.new }
 {
-    let Some(command) = Command::read(words) else {
-        return End::plain(Status::BadWords);
+    let command = match Command::read(alloc, words) {
+        Ok(Some(command)) => command,
+        Ok(None) => return End::plain(Status::BadWords),
+        Err(NoMemory) => return End::plain(Status::NoMemory),
     };
     match read_files(alloc, tree, words, command.files()) {
         Ok(files) => answer(alloc, &command, files.as_slice(), out, observers),
@@ -123,7 +126,6 @@ fn answer<O: Sink, H: Hears>(
     out: &mut O,
     observers: &mut H,
 ) -> End
-    requires { length files.now ≡ length (files_of (meant command.now)) }
     ensures answers { AnswersVerdict (verdict_on (throws_by (H.says observers.old)) (meant command.now) files.now)
         (ending result.status result.word result.breach result.unready) (O.written out.old) (O.written out.new) }
     ensures heard { AreHeard result.status (executed_by (throws_by (H.says observers.old)) (meant command.now) files.now)

@@ -7,6 +7,7 @@ mod end;
 mod file;
 mod observers;
 mod output;
+mod pages;
 mod report;
 mod spelt;
 mod status;

@@ -1,18 +1,30 @@
 //! The words of a call: which command they are, and which of them name files.
-ghost use Rattle.std.specs.Prelude.{◌≡◌, option_map};
-ghost use Rattle.rl_cli.specs.Words.{command_of, drive_of, load_of, startup_of, is_of_nobody, texts, files_of, word_at as word_of};
+ghost use Rattle.std.specs.Prelude.{◌≡◌, IfOk, option_map};
+ghost use Rattle.rl_cli.specs.Words.{command_of, drive_of, load_of, startup_of, is_file, viewer_named, files_with, texts, files_of, word_at as word_of};
 ghost use Rattle.rl_cli.specs.Meant.{meant};
 
+use rl_names::{NoMemory, Text, UserName, UserNameError};
+use rl_pages::Viewer;
+use std::alloc::Global;
+
 /// What the words ask for. The words that name files are told by their places ([`Command::files`]).
-#[derive(Clone, Copy)]
+#[derive(Drop)]
 pub enum Command<'a> {
     /// `drive SCRIPT`: what the client machine prints for a script.
     Drive,
-    /// `load DEFS - - QUERY`: what a wiki of these definitions answers to a query, for a viewer who is
-    /// nobody. The two words between stand for no file of pages and for nobody.
-    Load { query: &'a str },
-    /// `startup DEFS - - LANG SKIN`: what a client of nobody starts from, in this language and with this skin.
-    Startup { lang: &'a str, skin: &'a str },
+    /// `load DEFS PAGES VIEWER QUERY`: what a wiki of these definitions and pages answers to a query of a viewer.
+    Load {
+        paged: bool,
+        viewer: Viewer,
+        query: &'a str,
+    },
+    /// `startup DEFS PAGES VIEWER LANG SKIN`: what a client of a viewer starts from, in this language and with this skin.
+    Startup {
+        paged: bool,
+        viewer: Viewer,
+        lang: &'a str,
+        skin: &'a str,
+    },
 }
 
 /// The words `drive SCRIPT`.
@@ -29,49 +41,89 @@ fn drive_words<'a>(words: &[&'a str]) -> Option<Command<'a>>
     }
 }
 
-/// Whether there is no file of pages, and the viewer is nobody.
-fn is_of_nobody(pages: &str, viewer: &str) -> bool
-    ensures { result ≡ is_of_nobody pages.now viewer.now }
+/// Whether there is a file of pages: `-` stands for none.
+fn is_file(pages: &str) -> bool
+    ensures { result ≡ is_file pages.now }
 {
-    pages == "-" && viewer == "-"
+    pages != "-"
 }
 
-/// The words `load DEFS - - QUERY`.
-fn load_words<'a>(words: &[&'a str]) -> Option<Command<'a>>
-    ensures { option_map meant result ≡ load_of (texts words.now) }
+/// The viewer whom a word names, if it names one: `-` stands for nobody.
+fn viewer_named(alloc: Global, word: &str) -> Result<Option<Viewer>, NoMemory>
+    ensures { IfOk result (λ viewer. viewer ≡ viewer_named word.now) }
+{
+    if word == "-" {
+        return Ok(Some(Viewer::Anon));
+    }
+    match UserName::read(alloc, word.as_bytes()) {
+        Ok(name) => Ok(Some(Viewer::User(Text::from_string(name.into_string())))),
+        Err(UserNameError::BadUserName) => Ok(None),
+        Err(UserNameError::NoMemory) => Err(NoMemory),
+    }
+}
+
+/// The words `load DEFS PAGES VIEWER QUERY`.
+fn load_words<'a>(alloc: Global, words: &[&'a str]) -> Result<Option<Command<'a>>, NoMemory>
+    ensures { IfOk result (λ command. option_map meant command ≡ load_of (texts words.now)) }
 {
     let [word, _definitions, pages, viewer, query] = words else {
-        return None;
+        return Ok(None);
     };
-    if *word == "load" && is_of_nobody(pages, viewer) {
-        Some(Command::Load { query })
-    } else {
-        None
+    if *word != "load" {
+        return Ok(None);
+    }
+    let paged = is_file(pages);
+    match viewer_named(alloc, viewer)? {
+        Some(viewer) => Ok(Some(Command::Load {
+            paged,
+            viewer,
+            query,
+        })),
+        None => Ok(None),
     }
 }
 
-/// The words `startup DEFS - - LANG SKIN`.
-fn startup_words<'a>(words: &[&'a str]) -> Option<Command<'a>>
-    ensures { option_map meant result ≡ startup_of (texts words.now) }
+/// The words `startup DEFS PAGES VIEWER LANG SKIN`.
+fn startup_words<'a>(alloc: Global, words: &[&'a str]) -> Result<Option<Command<'a>>, NoMemory>
+    ensures { IfOk result (λ command. option_map meant command ≡ startup_of (texts words.now)) }
 {
     let [word, _definitions, pages, viewer, lang, skin] = words else {
-        return None;
+        return Ok(None);
     };
-    if *word == "startup" && is_of_nobody(pages, viewer) {
-        Some(Command::Startup { lang, skin })
-    } else {
-        None
+    if *word != "startup" {
+        return Ok(None);
     }
+    let paged = is_file(pages);
+    match viewer_named(alloc, viewer)? {
+        Some(viewer) => Ok(Some(Command::Startup {
+            paged,
+            viewer,
+            lang,
+            skin,
+        })),
+        None => Ok(None),
+    }
+}
+
+/// The places of the definitions and of the pages.
+fn files_with(paged: bool) -> &'static [u32]
+    ensures { result.now ≡ files_with paged }
+{
+    if paged { &[1, 2] } else { &[1] }
 }
 
 impl<'a> Command<'a> {
     /// The command of the words, if they have one.
-    pub fn read(words: &[&'a str]) -> Option<Command<'a>>
-        ensures { option_map meant result ≡ command_of (texts words.now) }
+    pub fn read(alloc: Global, words: &[&'a str]) -> Result<Option<Command<'a>>, NoMemory>
+        ensures { IfOk result (λ command. option_map meant command ≡ command_of (texts words.now)) }
     {
-        drive_words(words)
-            .or(load_words(words))
-            .or(startup_words(words))
+        if let Some(command) = drive_words(words) {
+            return Ok(Some(command));
+        }
+        if let Some(command) = load_words(alloc, words)? {
+            return Ok(Some(command));
+        }
+        startup_words(alloc, words)
     }
 
     /// The places of the words that name its files, in their order. The word of the command has
@@ -81,7 +133,7 @@ impl<'a> Command<'a> {
     {
         match self {
             Command::Drive => &[1],
-            Command::Load { .. } | Command::Startup { .. } => &[1],
+            Command::Load { paged, .. } | Command::Startup { paged, .. } => files_with(*paged),
         }
     }
 }

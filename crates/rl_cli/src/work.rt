@@ -1,6 +1,6 @@
 //! What a command makes of the bytes of its files.
-ghost use Rattle.std.specs.Prelude.{◌≡◌, ◌<◌, [], IfOk, false, length, option_map};
-ghost use Rattle.rl_names.specs.Meant.{Gives};
+ghost use Rattle.std.specs.Prelude.{◌≡◌, [], IfOk, Ok, Err, false, option_map};
+ghost use Rattle.rl_names.specs.Meant.{ButForMemory, Gives};
 ghost use Rattle.rl_script_spec.specs.Script.{verdict_of};
 ghost use Rattle.rl_script_spec.specs.Unready.{unready_in};
 ghost use Rattle.rl_view.specs.Heard.{throws_by};
@@ -9,23 +9,38 @@ ghost use Rattle.rl_defs.specs.Breach.{reading};
 ghost use Rattle.rl_defs.specs.Refusal.{refusal_told as breach_told};
 ghost use Rattle.rl_build.specs.Context.{context_of};
 ghost use Rattle.rl_build.specs.Sight.{sight};
-ghost use Rattle.rl_loadphp.specs.Answer.{answer_of};
 ghost use Rattle.rl_loadphp.specs.Refusal.{refusal_told as query_told};
+ghost use Rattle.rl_steps.specs.Script.{refusal as lines_told};
 ghost use Rattle.rl_startup.specs.Registry.{startup_text_of};
 ghost use Rattle.rl_cli.specs.Meant.{meant};
-ghost use Rattle.rl_cli.specs.Verdict.{IsHeard, executed_by, fault_told, file_at, of_breach as fault_of_breach, of_query as fault_of_query, of_reading, of_script, of_start, verdict_on};
-ghost use Rattle.rl_cli.specs.Words.{files_of};
+ghost use Rattle.rl_cli.specs.Verdict.{
+  IsHeard,
+  executed_by,
+  fault_told,
+  file_at,
+  of_breach as fault_of_breach,
+  of_lines as fault_of_lines,
+  of_load,
+  of_query as fault_of_query,
+  of_script,
+  of_start,
+  steps_in,
+  verdict_on,
+  wiki_in,
+};
 
+use crate::pages::take_steps;
 use crate::words::Command;
 use rl_base::Hears;
 use rl_build::Context;
 use rl_defs::{Catalog, CatalogError};
 use rl_drive::{DriveError, drive};
-use rl_loadphp::{Answer, AnswerError, answer};
+use rl_loadphp::AnswerError;
 use rl_names::{Blob, Counted, NoMemory, Text};
-use rl_pages::{Pages, Viewer};
+use rl_pages::Viewer;
 use rl_script_spec::Unready;
-use rl_startup::startup_text;
+use rl_steps::{Kinds, ScriptError, Step, read_script};
+use rl_wiki::Wiki;
 use std::alloc::Global;
 
 /// What a command prints.
@@ -67,7 +82,6 @@ pub fn work<H: Hears>(
     files: &[Blob],
     observers: &mut H,
 ) -> Result<Printed, WorkError>
-    requires { length files.now ≡ length (files_of (meant command.now)) }
     ensures gives { Gives fault_told result (verdict_on (throws_by (H.says observers.old)) (meant command.now) files.now) }
     ensures heard { IsHeard result (executed_by (throws_by (H.says observers.old)) (meant command.now) files.now)
         (H.told observers.old) (H.told observers.new) }
@@ -75,17 +89,28 @@ pub fn work<H: Hears>(
 {
     match command {
         Command::Drive => play_script(alloc, bytes_of(files, 0), 1, observers),
-        Command::Load { query } => load(alloc, bytes_of(files, 0), query),
-        Command::Startup { lang, skin } => startup(alloc, bytes_of(files, 0), lang, skin),
+        Command::Load {
+            paged,
+            viewer,
+            query,
+        } => load(alloc, *paged, files, viewer, query),
+        Command::Startup {
+            paged,
+            viewer,
+            lang,
+            skin,
+        } => startup(alloc, *paged, files, viewer, lang, skin),
     }
 }
 
 /// The bytes of the file of a number, counted from 0.
 fn bytes_of(files: &[Blob], number: usize) -> &[u8]
-    requires { number < length files.now }
     ensures { result.now ≡ file_at files.now number }
 {
-    files[number].as_bytes()
+    match files.get(number) {
+        Some(file) => file.as_bytes(),
+        None => &[],
+    }
 }
 
 /// Plays a script, which the word of this place names.
@@ -153,23 +178,79 @@ fn of_query(word: u32, error: AnswerError) -> WorkError
     WorkError::Exceeds { word, what, count }
 }
 
-/// The answer to a query of a viewer who is nobody, by a wiki without pages.
-fn nobodys_answer(alloc: Global, catalog: &Catalog, query: &str) -> Result<Answer, AnswerError>
-    ensures { Gives query_told result (answer_of (sight catalog.now [] Viewer.Anon) query.now) }
+/// The fault of a script of pages, which the word of this place names.
+fn of_lines(word: u32, error: ScriptError) -> WorkError
+    ensures { fault_told result ≡ option_map (fault_of_lines word) (lines_told error) }
 {
-    let pages = Pages::empty(alloc)?;
-    answer(alloc, catalog, &pages, &Viewer::Anon, query.as_bytes())
+    match error {
+        ScriptError::BadLine { line, why } => WorkError::Breaks {
+            word,
+            line,
+            why,
+            breach: None,
+        },
+        ScriptError::TooMany { count } => WorkError::Exceeds {
+            word,
+            what: Counted::Steps,
+            count,
+        },
+        ScriptError::NoMemory => WorkError::NoMemory,
+    }
 }
 
-/// The body that answers a query, which is word 4, from definitions, which word 1 names.
-fn load(alloc: Global, definitions: &[u8], query: &str) -> Result<Printed, WorkError>
-    ensures { Gives fault_told result (of_reading query.now (reading definitions.now)) }
+/// The steps of the file of pages, if there is one.
+fn read_steps(alloc: Global, paged: bool, files: &[Blob]) -> Result<Vec<Step>, WorkError>
+    ensures { ButForMemory fault_told (λ steps. steps_in paged files.now ≡ Ok steps.items)
+        (λ fault. (why : _) × (steps_in paged files.now ≡ Err why) × (fault ≡ fault_of_lines 2 why)) result }
+{
+    if !paged {
+        return Ok(Vec::new(alloc));
+    }
+    match read_script(alloc, bytes_of(files, 1), Kinds::Pages) {
+        Ok(steps) => Ok(steps),
+        Err(error) => Err(of_lines(2, error)),
+    }
+}
+
+/// A wiki without pages, by definitions, which word 1 names.
+fn open(alloc: Global, definitions: &[u8]) -> Result<Wiki, WorkError>
+    ensures { ButForMemory fault_told (λ w. (reading definitions.now ≡ Ok w.catalogue) × (w.entries ≡ []))
+        (λ fault. (breach : _) × (reading definitions.now ≡ Err breach) × (fault ≡ fault_of_breach 1 breach)) result }
 {
     let catalog = match Catalog::read(alloc, definitions) {
         Ok(catalog) => catalog,
         Err(breach) => return Err(of_breach(1, breach)),
     };
-    match nobodys_answer(alloc, &catalog, query) {
+    match Wiki::open(alloc, catalog) {
+        Ok(wiki) => Ok(wiki),
+        Err(NoMemory) => Err(WorkError::NoMemory),
+    }
+}
+
+/// The wiki that the files make: definitions, which word 1 names, and a file of pages, which word 2 names.
+fn wiki_of(alloc: Global, paged: bool, files: &[Blob]) -> Result<Wiki, WorkError>
+    ensures { Gives fault_told result (wiki_in paged files.now) }
+{
+    let mut wiki = open(alloc, bytes_of(files, 0))?;
+    let steps = read_steps(alloc, paged, files)?;
+    match take_steps(alloc, &mut wiki, steps.as_slice()) {
+        Ok(()) => Ok(wiki),
+        Err(NoMemory) => Err(WorkError::NoMemory),
+    }
+}
+
+/// The body that answers a query of a viewer, which is word 4.
+fn load(
+    alloc: Global,
+    paged: bool,
+    files: &[Blob],
+    viewer: &Viewer,
+    query: &str,
+) -> Result<Printed, WorkError>
+    ensures { Gives fault_told result (of_load viewer.now query.now (wiki_in paged files.now)) }
+{
+    let wiki = wiki_of(alloc, paged, files)?;
+    match wiki.answer(alloc, viewer, query.as_bytes()) {
         Ok(answer) => Ok(Printed {
             text: Blob::from_vec(answer.body.into_string().into_bytes()),
             ready: true,
@@ -180,29 +261,40 @@ fn load(alloc: Global, definitions: &[u8], query: &str) -> Result<Printed, WorkE
     }
 }
 
-/// The startup text of a viewer who is nobody, of a wiki without pages.
-fn nobodys_startup(
+/// The startup text of a viewer, in a language and with a skin.
+fn startup_of(
     alloc: Global,
-    catalog: &Catalog,
+    wiki: &Wiki,
+    viewer: &Viewer,
     lang: &str,
     skin: &str,
 ) -> Result<Text, NoMemory>
-    ensures { IfOk result (λ t. t ≡ startup_text_of (sight catalog.now [] Viewer.Anon) (context_of catalog.now lang.now skin.now false)) }
+    ensures { IfOk result (λ t. t ≡ startup_text_of (sight wiki.now.catalogue wiki.now.entries viewer.now)
+        (context_of wiki.now.catalogue lang.now skin.now false)) }
 {
-    let pages = Pages::empty(alloc)?;
-    let ctx = Context::read(alloc, catalog, lang.as_bytes(), skin.as_bytes(), false)?;
-    startup_text(alloc, catalog, &pages, &Viewer::Anon, &ctx)
+    let ctx = Context::read(
+        alloc,
+        wiki.catalog(),
+        lang.as_bytes(),
+        skin.as_bytes(),
+        false,
+    )?;
+    wiki.startup(alloc, viewer, &ctx)
 }
 
-/// What a client of nobody starts from, by definitions, which word 1 names.
-fn startup(alloc: Global, definitions: &[u8], lang: &str, skin: &str) -> Result<Printed, WorkError>
-    ensures { Gives fault_told result (of_start lang.now skin.now (reading definitions.now)) }
+/// What a client of a viewer starts from.
+fn startup(
+    alloc: Global,
+    paged: bool,
+    files: &[Blob],
+    viewer: &Viewer,
+    lang: &str,
+    skin: &str,
+) -> Result<Printed, WorkError>
+    ensures { Gives fault_told result (of_start viewer.now lang.now skin.now (wiki_in paged files.now)) }
 {
-    let catalog = match Catalog::read(alloc, definitions) {
-        Ok(catalog) => catalog,
-        Err(breach) => return Err(of_breach(1, breach)),
-    };
-    match nobodys_startup(alloc, &catalog, lang, skin) {
+    let wiki = wiki_of(alloc, paged, files)?;
+    match startup_of(alloc, &wiki, viewer, lang, skin) {
         Ok(text) => Ok(Printed {
             text: Blob::from_vec(text.into_string().into_bytes()),
             ready: true,

@@ -167,11 +167,11 @@ fn words(rt: HostRuntime) -> Result<(), Fail> {
     );
     assert_eq!(rt; status_of_words(alloc, &["--help"])?, Status::BadWords);
     assert_eq!(rt;
-        status_of_words(alloc, &["load", "a.script", "-", "Ann", ""])?,
+        status_of_words(alloc, &["load", "a.script", "-", "a|b", ""])?,
         Status::BadWords
     );
     assert_eq!(rt;
-        status_of_words(alloc, &["load", "a.script", "pages", "-", ""])?,
+        status_of_words(alloc, &["load", "a.script", "-", "", ""])?,
         Status::BadWords
     );
     assert_eq!(rt;

@@ -1,8 +1,8 @@
 //! Queries that are answered, refused definitions, and answers that are too long.
 use super::tree_of;
 use crate::{Status, run};
-use rl_base::MemSink;
-use rl_names::Counted;
+use rl_base::{MemSink, MemTree};
+use rl_names::{Blob, Counted, Text};
 use std::alloc::Global;
 use std::test::Fail;
 
@@ -190,6 +190,67 @@ fn startup_texts(rt: HostRuntime) -> Result<(), Fail> {
         let (ended, written) = written(alloc, definitions, &words)?;
         assert_eq!(rt; ended, status);
         assert_eq!(rt; written.as_slice(), text.as_bytes());
+    }
+    Ok(())
+}
+
+/// Edits by an admin and by Ann, of which the second is refused.
+const PAGES: &[u8] = b"# pages of a wiki
+[\"edit\",\"Root\",\"MediaWiki:Common.js\",0,\"one()\"]
+[\"edit\",\"Ann\",\"MediaWiki:Common.js\",1,\"no()\"]
+[\"edit\",\"Ann\",\"User:Ann/common.js\",0,\"ann()\"]
+";
+
+/// What `load` answers Ann and writes, over pages.
+fn loaded_over(alloc: Global, pages: &[u8], query: &str) -> Result<(Status, Vec<u8>), Fail> {
+    let mut files = Vec::new(alloc);
+    files.push((
+        Text::of(alloc, "a.toml")?,
+        Blob::of(alloc, SHORT.as_bytes())?,
+    ))?;
+    files.push((Text::of(alloc, "a.pages")?, Blob::of(alloc, pages)?))?;
+    let mut tree = MemTree::new(alloc, files, Vec::new(alloc))?;
+    let mut out = MemSink::new(alloc, Vec::new(alloc))?;
+    let words = ["load", "a.toml", "a.pages", "Ann", query];
+    let ended = run(alloc, &words, &mut tree, &mut out, Vec::new(alloc));
+    Ok((ended.status, Vec::from_slice(alloc, out.written())?))
+}
+
+#[test]
+fn answered_over_pages(rt: HostRuntime) -> Result<(), Fail> {
+    let alloc = rt.alloc();
+    for (query, body) in [
+        (
+            "modules=site",
+            "mw.loader.implement(\"site@waaz7\",\"one()\\n\",{},{});\n",
+        ),
+        (
+            "modules=user&user=Ann",
+            "mw.loader.implement(\"user@14t60\",\"ann()\\n\",{},{});\n",
+        ),
+        (
+            "modules=user&user=Ben",
+            "mw.loader.state({\"user\":\"missing\"});\n",
+        ),
+    ] {
+        let (ended, written) = loaded_over(alloc, PAGES, query)?;
+        assert_eq!(rt; ended, Status::Done, "{query}");
+        assert_eq!(rt; written.as_slice(), body.as_bytes(), "{query}");
+    }
+    Ok(())
+}
+
+#[test]
+fn pages_at_fault(rt: HostRuntime) -> Result<(), Fail> {
+    let alloc = rt.alloc();
+    for (pages, line, why) in [
+        (b"# x\n[\"take\"]\n".as_slice(), 2, 2),
+        (b"[\"edit\"]\n".as_slice(), 1, 1),
+        (b"\xFF".as_slice(), 0, 4),
+    ] {
+        let (ended, written) = loaded_over(alloc, pages, "modules=a")?;
+        assert_eq!(rt; ended, Status::BadInput { word: 2, line, why });
+        assert!(rt; written.is_empty());
     }
     Ok(())
 }
