@@ -1,5 +1,5 @@
 //! What definitions say, once every check has passed.
-ghost use Rattle.std.specs.Prelude.{◌≡◌, ◌<◌, ◌≤◌, length, map, slice_get, bytes_eq, option_and_then, option_copied, option_map, IsNone};
+ghost use Rattle.std.specs.Prelude.{◌≡◌, ◌<◌, ◌≤◌, length, map, slice_get, bytes_eq, option_and_then, option_copied, option_map};
 ghost use Rattle.std.specs.Prelude.{IsTrue, IfOk, Some, None, Ok};
 ghost use Rattle.std.specs.List.{AllByRecursion, list_all, position};
 ghost use Rattle.rl_names.specs.Meant.{Gives};
@@ -180,15 +180,6 @@ impl Catalog {
         ensures { result.now ≡ self.now.languages }
     {
         self.languages.as_slice()
-    }
-
-    /// The definitions' text of a message in one language.
-    ///
-    /// The table of messages is not read yet, so there is none.
-    pub fn definition_message(&self, _lang: &[u8], _key: &[u8]) -> Option<&[u8]>
-        ensures { IsNone result }
-    {
-        None
     }
 
     /// The most bytes that a query of one batch may have.

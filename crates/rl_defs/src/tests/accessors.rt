@@ -125,7 +125,6 @@ fn what_is_found(rt: HostRuntime) -> Result<(), Fail> {
     for (name, text, place) in &FOUND {
         assert!(rt; catalog.file(name).unwrap_or(b"-") == text.as_bytes());
         assert!(rt; catalog.find(name).unwrap_or(9) == *place);
-        assert!(rt; catalog.definition_message(b"en", name).is_none());
     }
     assert!(rt; catalog.file_text("b.js").unwrap_or("-") == "b()");
     assert!(rt; catalog.file_text("b.jsx").is_none());
