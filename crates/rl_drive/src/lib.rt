@@ -7,9 +7,7 @@ mod script;
 mod steps;
 #[cfg(test)]
 mod tests;
-mod text;
 mod unready;
 
 pub use script::{DriveError, drive};
 pub use steps::{Driven, play};
-pub use text::state_word;

@@ -14,10 +14,10 @@ ghost use Rattle.rl_drive.specs.Played.{executed_lines, execution_at, is_private
 ghost use Rattle.rl_drive.specs.Played.{script_length, state_at, state_lines, throws_for_run};
 
 use crate::given::{Given, nothing_given};
-use crate::text::{state_word, write, write_key, write_line, write_number};
 use rl_base::Hears;
 use rl_names::{Group, Key, NoMemory, StateKind, Text};
 use rl_registry::{Registry, ResolveError};
+use rl_reply::{state_word, write, write_key, write_line, write_number};
 use rl_script_spec::Step;
 use rl_states::{Outcome, Phase, Table};
 use rl_view::{counts, uncounted};
@@ -175,7 +175,7 @@ impl<'a> Player<'a> {
             Err(ResolveError::NoMemory) => return Err(NoMemory),
         }
         write(out, "load dropped ")?;
-        write_number(out, names.len().saturating_sub(accepted.len()))?;
+        write_number(out, names.len().saturating_sub(accepted.len()) as u64)?;
         write_line(out, "")
     }
 
@@ -288,7 +288,7 @@ impl<'a> Player<'a> {
         write(out, word)?;
         self.write_row(row, out)?;
         write(out, " ")?;
-        write_number(out, self.script_length(row))?;
+        write_number(out, self.script_length(row) as u64)?;
         write_line(out, "")
     }
 

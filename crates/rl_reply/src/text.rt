@@ -39,7 +39,7 @@ pub fn write_line(out: &mut Vec<u8>, text: &str) -> Result<(), NoMemory>
 }
 
 /// Adds a number in decimal.
-pub fn write_number(out: &mut Vec<u8>, number: usize) -> Result<(), NoMemory>
+pub fn write_number(out: &mut Vec<u8>, number: u64) -> Result<(), NoMemory>
     ensures { OnOk result (out.new.items ≡ out.old.items ++ decimal number) }
 {
     let mut digits = Buffer::new();
