@@ -5,3 +5,4 @@ pub mod Heads
 pub mod Replies
 pub mod Routes
 pub mod Sent
+pub mod Serving
