@@ -20,10 +20,12 @@ front_of p r xs n e =
     whole ∙ ap (λ (t : List ℕ). p ++ t) (sym (ap (drop (length p)) whole ∙ drop-append_seam p (r ++ drop n xs)))
 
 pub begins_in : (bytes : List ℕ) (n used : ℕ) (said : Result Head ℕ) → BeginsWith (take n bytes) used said → BeginsWith bytes used said
-begins_in bytes n used said b =
-    (b.0,
-    (b.1.0, front_of (print_request b.0) (drop used (take n bytes)) bytes n b.1.1 ∙ ap (λ (k : ℕ). print_request b.0 ++ drop k bytes) (sym b.2)),
-    b.2, b.3)
+begins_in bytes n used said b = (
+  b.0,
+  (b.1.0, front_of (print_request b.0) (drop used (take n bytes)) bytes n b.1.1 ∙ ap (λ (k : ℕ). print_request b.0 ++ drop k bytes) (sym b.2)),
+  b.2,
+  b.3,
+)
 
 -- a head in what is looked at
 pub begins_looked : (bytes input : List ℕ) (used : ℕ) (said : Result Head ℕ) → bytes ≡ looked_at input → BeginsWith bytes used said → BeginsWith input used said
@@ -48,6 +50,6 @@ begins_cut input to used said h b =
     let whole : input ≡ print_request b.0 ++ drop used input = b.1.1 in
     let small : length (print_request b.0) ≤ to = omega (arith, b.2) in
     let front : take to input ≡ print_request b.0 ++ drop (length (print_request b.0)) (take to input) =
-        subst (λ (t : List ℕ). take to t ≡ print_request b.0 ++ drop (length (print_request b.0)) (take to t)) (sym whole)
-        (take_front (print_request b.0) (drop used input) to small) in
+    subst (λ (t : List ℕ). take to t ≡ print_request b.0 ++ drop (length (print_request b.0)) (take to t)) (sym whole)
+    (take_front (print_request b.0) (drop used input) to small) in
     (b.0, (b.1.0, front ∙ ap (λ (k : ℕ). print_request b.0 ++ drop k (take to input)) (sym b.2)), b.2, b.3)

@@ -30,9 +30,11 @@ gives_collected written out text out1 e = ([], appended_none written, e)
 -- all sent, and then a text
 pub gives_sent : (written0 written1 written2 : Option (List ℕ)) (out text out1 : List ℕ)
     → written1 ≡ appended written0 out → written2 ≡ appended written1 text → out1 ≡ [] → Gives written0 out text written2 out1
-gives_sent written0 written1 written2 out text out1 e f none =
-    (out ++ text, f ∙ (ap (λ w. appended w text) e ∙ appended-appended written0 out text),
-    ap (λ (t : List ℕ). (out ++ text) ++ t) none ∙ append-nil (out ++ text))
+gives_sent written0 written1 written2 out text out1 e f none = (
+  out ++ text,
+  f ∙ (ap (λ w. appended w text) e ∙ appended-appended written0 out text),
+  ap (λ (t : List ℕ). (out ++ text) ++ t) none ∙ append-nil (out ++ text),
+)
 
 -- a front of one text is one of it and what follows
 pub front_before : (written0 written1 : Option (List ℕ)) (out text : List ℕ) → AppendsFront written0 out written1 → AppendsFront written0 (out ++ text) written1
@@ -41,16 +43,19 @@ front_before written0 written1 out text (count, few, w) =
   where
     within : (out text : List ℕ) (count : ℕ) → count ≤ length out → count ≤ length (out ++ text)
     within out text count h = grind (arith, common_steps)
+
     shorter : (count : ℕ) (out text : List ℕ) → count ≤ length out → take count (out ++ text) ≡ take count out
     shorter count out text h = grind (arith, common_steps)
 
 -- a front of a text behind what was sent
 pub front_behind : (written0 written1 written2 : Option (List ℕ)) (out text : List ℕ)
     → written1 ≡ appended written0 out → AppendsFront written1 text written2 → AppendsFront written0 (out ++ text) written2
-front_behind written0 written1 written2 out text e (count, few, w) =
-    (length out + count, within out text count few,
-    w ∙ (ap (λ v. appended v (take count text)) e
-    ∙ (appended-appended written0 out (take count text) ∙ ap (appended written0) (sym (take-append-add out text count)))))
+front_behind written0 written1 written2 out text e (count, few, w) = (
+  length out + count,
+  within out text count few,
+  w ∙ (ap (λ v. appended v (take count text)) e
+      ∙ (appended-appended written0 out (take count text) ∙ ap (appended written0) (sym (take-append-add out text count)))),
+)
   where
     within : (out text : List ℕ) (count : ℕ) → count ≤ length text → length out + count ≤ length (out ++ text)
     within out text count h = grind (arith, common_steps)
@@ -70,7 +75,7 @@ sent_give written0 written1 written2 texts out text out2 s (more, w, e) = record
   flown = s.flown ++ more;
   is = w ∙ (ap (λ v. appended v more) s.is ∙ appended-appended written0 s.flown more);
   rest = ap (λ (t : List ℕ). t ++ text) s.rest
-    ∙ (append_assoc s.flown out text ∙ (ap (λ (t : List ℕ). s.flown ++ t) (sym e) ∙ sym (append_assoc s.flown more out2)));
+      ∙ (append_assoc s.flown out text ∙ (ap (λ (t : List ℕ). s.flown ++ t) (sym e) ∙ sym (append_assoc s.flown more out2)));
 }
 
 -- what was collected was sent, and a text behind it
@@ -93,12 +98,13 @@ sent_flushed written0 written1 written2 texts out out2 s e none = record {
 pub sent_front : (written0 written1 written2 : Option (List ℕ)) (texts out text : List ℕ)
     → Sent written0 written1 texts out → AppendsFront written1 (out ++ text) written2
     → (front : ℕ) × (written2 ≡ appended written0 (take front (texts ++ text)))
-sent_front written0 written1 written2 texts out text s (count, few, w) =
-    (length s.flown + count,
-    w ∙ (ap (λ v. appended v (take count (out ++ text))) s.is
-    ∙ (appended-appended written0 s.flown (take count (out ++ text))
-    ∙ ap (appended written0) (sym (take-append-add s.flown (out ++ text) count)
-    ∙ ap (take (length s.flown + count)) (sym (append_assoc s.flown out text) ∙ ap (λ (t : List ℕ). t ++ text) (sym s.rest))))))
+sent_front written0 written1 written2 texts out text s (count, few, w) = (
+  length s.flown + count,
+  w ∙ (ap (λ v. appended v (take count (out ++ text))) s.is
+      ∙ (appended-appended written0 s.flown (take count (out ++ text))
+      ∙ ap (appended written0) (sym (take-append-add s.flown (out ++ text) count)
+      ∙ ap (take (length s.flown + count)) (sym (append_assoc s.flown out text) ∙ ap (λ (t : List ℕ). t ++ text) (sym s.rest))))),
+)
 
 -- ---- by the result of the last call
 

@@ -129,8 +129,11 @@ had_more : (catalogue : Catalogue) (r s t : Type 0) (before mid after : List Ent
 had_more catalogue r s t before mid after left0 left1 left2 xs input head from to text had has f g replies same = record {
   each = (is_request input head from to text has, had.each);
   came = passed left0 left2 (bytes_of xs) input to (had.came ∙ ap (after_front (bytes_of xs ++ input)) (sym same));
-  leads = (mid, leads_later catalogue r t before xs mid f had.leads,
-    replies_later s t mid (http_reply catalogue mid head (take (to - from) (drop from input))) text after g replies);
+  leads = (
+    mid,
+    leads_later catalogue r t before xs mid f had.leads,
+    replies_later s t mid (http_reply catalogue mid head (take (to - from) (drop from input))) text after g replies,
+  );
 }
 
 -- a connection that refused a call, by its refusal
@@ -148,7 +151,6 @@ serves_broken catalogue t before after left0 left1 written0 written1 n end error
 
 module _ (catalogue : Catalogue) (r : Type 0) (before mid : List Entry) (left0 left1 written0 written1 : Option (List ℕ)) (n : ℕ) (input out : List ℕ)
     (p : Progress catalogue r before mid left0 left1 written0 written1 n input out) where
-
   -- more bytes came, and what was collected was sent
   pub read_more : (left2 written2 : Option (List ℕ)) (input2 out2 : List ℕ)
       → after_front input left1 ≡ after_front input2 left2 → written2 ≡ appended written1 out → out2 ≡ []
@@ -167,7 +169,7 @@ module _ (catalogue : Catalogue) (r : Type 0) (before mid : List Entry) (left0 l
       → (end : End) → Broken catalogue r before mid left0 left2 written0 written2 record { requests = n; end = end }
   broke left2 written2 input2 took front end =
       let s : (front : ℕ) × (written2 ≡ appended written0 (take front (texts_of p.xs ++ []))) =
-          sent_front written0 written1 written2 (texts_of p.xs) out [] p.sent (front_before written1 written2 out [] front) in
+      sent_front written0 written1 written2 (texts_of p.xs) out [] p.sent (front_before written1 written2 out [] front) in
       record {
         xs = p.xs;
         rest = input2;
@@ -205,7 +207,7 @@ module _ (catalogue : Catalogue) (r : Type 0) (before mid : List Entry) (left0 l
     goes = p.goes;
     is = refl;
     had = had_more catalogue r s t before mid after left0 left1 left2 p.xs input head from to text p.had has f g
-      (subst (λ (b : List ℕ). Replies mid s (http_reply catalogue mid head b) text after) same replies) still;
+        (subst (λ (b : List ℕ). Replies mid s (http_reply catalogue mid head b) text after) same replies) still;
     sent = sent_give written0 written1 written2 (texts_of p.xs) out text out2 p.sent given;
     count = omega (arith, c, p.count);
   }
@@ -217,14 +219,14 @@ module _ (catalogue : Catalogue) (r : Type 0) (before mid : List Entry) (left0 l
       → (end : End) → Broken catalogue t before after left0 left2 written0 written2 record { requests = m; end = end }
   broke_answer s t after left2 written2 m head from to body has f g same (inl (text, replies, front)) still c end =
       let q : (front : ℕ) × (written2 ≡ appended written0 (take front (texts_of p.xs ++ text))) =
-          sent_front written0 written1 written2 (texts_of p.xs) out text p.sent front in
+      sent_front written0 written1 written2 (texts_of p.xs) out text p.sent front in
       record {
         xs = exchange input head from to text ∷ p.xs;
         rest = drop to input;
         tail = [];
         front = q.0;
         had = had_more catalogue r s t before mid after left0 left1 left2 p.xs input head from to text p.had has f g
-          (subst (λ (b : List ℕ). Replies mid s (http_reply catalogue mid head b) text after) same replies) still;
+            (subst (λ (b : List ℕ). Replies mid s (http_reply catalogue mid head b) text after) same replies) still;
         follows = inl refl;
         sent = q.1 ∙ ap (λ (x : List ℕ). appended written0 (take q.0 x)) (sym (append-nil (texts_of p.xs ++ text)));
         least = omega (arith, c, p.count);
@@ -232,15 +234,15 @@ module _ (catalogue : Catalogue) (r : Type 0) (before mid : List Entry) (left0 l
       }
   broke_answer s t after left2 written2 m head from to body has f g same (inr (stays, w)) still c end =
       let q : (front : ℕ) × (written2 ≡ appended written0 (take front (texts_of p.xs ++ []))) =
-          sent_front written0 written1 written2 (texts_of p.xs) out [] p.sent
-          (subst (λ (v : Option (List ℕ)). AppendsFront written1 (out ++ []) v) (sym w) (front_none written1 (out ++ []))) in
+      sent_front written0 written1 written2 (texts_of p.xs) out [] p.sent
+      (subst (λ (v : Option (List ℕ)). AppendsFront written1 (out ++ []) v) (sym w) (front_none written1 (out ++ []))) in
       record {
         xs = p.xs;
         rest = input;
         tail = [];
         front = q.0;
         had = subst (λ (e : List Entry). Had catalogue t before e left0 left2 p.xs input) (sym stays)
-          (had_still catalogue r t before mid left0 left1 left2 p.xs input p.had f still);
+            (had_still catalogue r t before mid left0 left1 left2 p.xs input p.had f still);
         follows = inl refl;
         sent = q.1;
         least = omega (arith, c, p.count);
@@ -253,7 +255,7 @@ module _ (catalogue : Catalogue) (r : Type 0) (before mid : List Entry) (left0 l
       → (end : End) → Broken catalogue r before mid left0 left2 written0 written2 record { requests = n; end = end }
   broke_bad left2 written2 code bad same front end =
       let q : (front : ℕ) × (written2 ≡ appended written0 (take front (texts_of p.xs ++ refused_text (refusal_for code)))) =
-          sent_front written0 written1 written2 (texts_of p.xs) out (refused_text (refusal_for code)) p.sent front in
+      sent_front written0 written1 written2 (texts_of p.xs) out (refused_text (refusal_for code)) p.sent front in
       record {
         xs = p.xs;
         rest = input;
@@ -276,14 +278,27 @@ module _ (catalogue : Catalogue) (r : Type 0) (before mid : List Entry) (left0 l
     where
       had : (i : List ℕ) → i ≡ input → Had catalogue r before mid left0 left2 p.xs i
       had i k = had_moved catalogue r before mid left0 left1 left2 p.xs input i p.had (took ∙ ap (λ (t : List ℕ). after_front t left2) (same ∙ sym k))
+
       sent : written2 ≡ appended written0 (texts_of p.xs ++ [])
       sent = sent_whole written0 written1 written2 (texts_of p.xs) out [] p.sent (e ∙ ap (appended written1) (sym (append-nil out)))
+
       by_input : (i : List ℕ) → i ≡ input → Serves catalogue r before mid left0 left2 written0 written2 record { requests = n; end = end_of i }
       by_input [] k = record {
-        xs = p.xs; rest = []; tail = []; had = had [] k; sent = sent; count = p.count; ends = (p.goes, refl, none, refl);
+        xs = p.xs;
+        rest = [];
+        tail = [];
+        had = had [] k;
+        sent = sent;
+        count = p.count;
+        ends = (p.goes, refl, none, refl);
       }
       by_input (b ∷ bs) k = record {
-        xs = p.xs; rest = b ∷ bs; tail = []; had = had (b ∷ bs) k; sent = sent; count = p.count;
+        xs = p.xs;
+        rest = b ∷ bs;
+        tail = [];
+        had = had (b ∷ bs) k;
+        sent = sent;
+        count = p.count;
         ends = (p.goes, (λ q. cc), subst IsPart (sym k) part, none, refl);
       }
 
@@ -310,7 +325,6 @@ module _ (catalogue : Catalogue) (r : Type 0) (before mid : List Entry) (left0 l
 
 module _ (catalogue : Catalogue) (t : Type 0) (before after : List Entry) (left0 left1 written0 written1 : Option (List ℕ)) (m : ℕ) (head : Head) (input out : List ℕ)
     (a : Answered catalogue t before after left0 left1 written0 written1 m head input out) where
-
   -- the connection goes on
   pub goes_next : head.last ≡ false → (input2 : List ℕ) → input2 ≡ input → Progress catalogue t before after left0 left1 written0 written1 m input2 out
   goes_next last input2 e = record {
@@ -342,7 +356,7 @@ module _ (catalogue : Catalogue) (t : Type 0) (before after : List Entry) (left0
       at_end : (end : End) → Broken catalogue t before after left0 left2 written0 written2 record { requests = m; end = end }
       at_end end =
           let q : (front : ℕ) × (written2 ≡ appended written0 (take front (texts_of (a.x ∷ a.xs) ++ []))) =
-              sent_front written0 written1 written2 (texts_of (a.x ∷ a.xs)) out [] a.sent (front_before written1 written2 out [] front) in
+          sent_front written0 written1 written2 (texts_of (a.x ∷ a.xs)) out [] a.sent (front_before written1 written2 out [] front) in
           record {
             xs = a.x ∷ a.xs;
             rest = input;

@@ -9,6 +9,7 @@ pub mod inbox;
 pub mod numbers;
 pub mod outbox;
 pub mod reading;
+pub mod real;
 pub mod refusals;
 pub mod replies;
 pub mod routes;
@@ -18,6 +19,7 @@ pub mod writing;
 
 pub use heads::{Head, HeadRead};
 pub use reading::read_head;
+pub use real::TcpConn;
 pub use refusals::Refusal;
 pub use replies::reply_to;
 pub use routes::Route;

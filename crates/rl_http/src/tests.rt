@@ -1,3 +1,4 @@
 //! What no clause says: examples of heads, routes and answers, with ample memory.
-mod answers;
+pub(crate) mod answers;
 mod heads;
+mod serving;

@@ -8,7 +8,7 @@ returns-in-Ok-give-clause-finishes g c =
     finishes_text _ _ (g.C.Conn.written c.args.conn.now) (g.C.Conn.written c.finish.new.conn) c.args.out.now.items c.as_bytes.result.now _
     (c.as_bytes.ensures ∙ (c.in-Ok.ensures ∙ ap refused_text c.refusal_for.ensures))
     (finishes_given _ _ (g.C.Conn.written c.args.conn.now) (g.C.Conn.written c.give.new.conn) (g.C.Conn.written c.finish.new.conn)
-      c.args.out.now.items c.as_bytes.result.now c.give.new.out.items c.in-Ok-give.ensures.whole c.finish.ensures.finishes)
+    c.args.out.now.items c.as_bytes.result.now c.give.new.out.items c.in-Ok-give.ensures.whole c.finish.ensures.finishes)
 
 pub returns-clause-finishes : goal.returns-clause-finishes
 returns-clause-finishes g c =

@@ -18,14 +18,14 @@ pub returns-in-Err-answer-clause-serves : goal.returns-in-Err-answer-clause-serv
 returns-in-Err-answer-clause-serves g c =
     serves_broken _ _ _ _ _ _ _ _ _ _ c.in-Err-answer.error c.end_by.ensures
     (broke_answer _ _ _ _ _ _ _ _ _ c.requests.inbox c.requests.out.items c.requests.invariant.progress
-      _ _ _ _ _ _ c.in-Ok-Whole.head c.in-Ok-Whole.from c.in-Ok-Whole.to _
-      (has_here _ _ (hands.Whole c.in-Ok-Whole.head c.in-Ok-Whole.from c.in-Ok-Whole.to) c.rest.ensures (rw c.in-Ok-Whole.field-0-is at c.in-Ok-Whole.ensures))
-      (rose_later _ _ _ c.in-Err-answer.ensures.keeper) (rose_since _ _ _ c.requests.invariant.keeper)
-      (ap (λ (i : List ℕ). take (c.in-Ok-Whole.to - c.in-Ok-Whole.from) (drop c.in-Ok-Whole.from i)) c.rest-in-Ok-Whole.ensures)
-      (front_here _ _ _ _ _ c.in-Ok-Whole.head
-        (take (c.in-Ok-Whole.to - c.in-Ok-Whole.from) (drop c.in-Ok-Whole.from c.rest-in-Ok-Whole.result.now)) _ _ _
-        c.requests.invariant.catalogue c.in-Err-answer.ensures.front)
-      c.in-Err-answer.ensures.left_stays c.saturating_add-requests.ensures)
+    _ _ _ _ _ _ c.in-Ok-Whole.head c.in-Ok-Whole.from c.in-Ok-Whole.to _
+    (has_here _ _ (hands.Whole c.in-Ok-Whole.head c.in-Ok-Whole.from c.in-Ok-Whole.to) c.rest.ensures (rw c.in-Ok-Whole.field-0-is at c.in-Ok-Whole.ensures))
+    (rose_later _ _ _ c.in-Err-answer.ensures.keeper) (rose_since _ _ _ c.requests.invariant.keeper)
+    (ap (λ (i : List ℕ). take (c.in-Ok-Whole.to - c.in-Ok-Whole.from) (drop c.in-Ok-Whole.from i)) c.rest-in-Ok-Whole.ensures)
+    (front_here _ _ _ _ _ c.in-Ok-Whole.head
+    (take (c.in-Ok-Whole.to - c.in-Ok-Whole.from) (drop c.in-Ok-Whole.from c.rest-in-Ok-Whole.result.now)) _ _ _
+    c.requests.invariant.catalogue c.in-Err-answer.ensures.front)
+    c.in-Err-answer.ensures.left_stays c.saturating_add-requests.ensures)
 
 pub returns-in-Err-answer-clause-peer_fault : goal.returns-in-Err-answer-clause-peer_fault
 returns-in-Err-answer-clause-peer_fault g c =
@@ -35,14 +35,14 @@ pub returns-then-head-clause-serves : goal.returns-then-head-clause-serves
 returns-then-head-clause-serves g c =
     ends_asked _ _ _ _ _ _ _ _ _ c.in-Ok-Whole.head (drop c.in-Ok-Whole.to c.requests.inbox) c.answer.new.out.items
     (answered _ _ _ _ _ _ _ _ _ c.requests.inbox c.requests.out.items c.requests.invariant.progress
-      _ _ _ _ _ _ c.in-Ok-Whole.head c.in-Ok-Whole.from c.in-Ok-Whole.to _ _
-      (has_here _ _ (hands.Whole c.in-Ok-Whole.head c.in-Ok-Whole.from c.in-Ok-Whole.to) c.rest.ensures (rw c.in-Ok-Whole.field-0-is at c.in-Ok-Whole.ensures))
-      (rose_later _ _ _ c.in_default.ensures.keeper) (rose_since _ _ _ c.requests.invariant.keeper)
-      (ap (λ (i : List ℕ). take (c.in-Ok-Whole.to - c.in-Ok-Whole.from) (drop c.in-Ok-Whole.from i)) c.rest-in-Ok-Whole.ensures)
-      (sends_here _ _ _ _ _ c.in-Ok-Whole.head
-        (take (c.in-Ok-Whole.to - c.in-Ok-Whole.from) (drop c.in-Ok-Whole.from c.rest-in-Ok-Whole.result.now)) _ _ _ _
-        c.requests.invariant.catalogue c.in_default.ensures.whole)
-      c.in_default.ensures.left_stays c.saturating_add-requests.ensures)
+    _ _ _ _ _ _ c.in-Ok-Whole.head c.in-Ok-Whole.from c.in-Ok-Whole.to _ _
+    (has_here _ _ (hands.Whole c.in-Ok-Whole.head c.in-Ok-Whole.from c.in-Ok-Whole.to) c.rest.ensures (rw c.in-Ok-Whole.field-0-is at c.in-Ok-Whole.ensures))
+    (rose_later _ _ _ c.in_default.ensures.keeper) (rose_since _ _ _ c.requests.invariant.keeper)
+    (ap (λ (i : List ℕ). take (c.in-Ok-Whole.to - c.in-Ok-Whole.from) (drop c.in-Ok-Whole.from i)) c.rest-in-Ok-Whole.ensures)
+    (sends_here _ _ _ _ _ c.in-Ok-Whole.head
+    (take (c.in-Ok-Whole.to - c.in-Ok-Whole.from) (drop c.in-Ok-Whole.from c.rest-in-Ok-Whole.result.now)) _ _ _ _
+    c.requests.invariant.catalogue c.in_default.ensures.whole)
+    c.in_default.ensures.left_stays c.saturating_add-requests.ensures)
     _ _ _ c.if-head.true c.finish-end.ensures.left_stays c.finish-end.ensures.finishes
 
 pub returns-then-head-clause-peer_fault : goal.returns-then-head-clause-peer_fault
@@ -54,14 +54,14 @@ requests-preserved-in-Ok-Whole g c = record {
   progress =
       goes_next _ _ _ _ _ _ _ _ _ c.in-Ok-Whole.head (drop c.in-Ok-Whole.to c.requests.inbox) c.answer.new.out.items
       (answered _ _ _ _ _ _ _ _ _ c.requests.inbox c.requests.out.items c.requests.invariant.progress
-        _ _ _ _ _ _ c.in-Ok-Whole.head c.in-Ok-Whole.from c.in-Ok-Whole.to _ _
-        (has_here _ _ (hands.Whole c.in-Ok-Whole.head c.in-Ok-Whole.from c.in-Ok-Whole.to) c.rest.ensures (rw c.in-Ok-Whole.field-0-is at c.in-Ok-Whole.ensures))
-        (rose_later _ _ _ c.in_default.ensures.keeper) (rose_since _ _ _ c.requests.invariant.keeper)
-        (ap (λ (i : List ℕ). take (c.in-Ok-Whole.to - c.in-Ok-Whole.from) (drop c.in-Ok-Whole.from i)) c.rest-in-Ok-Whole.ensures)
-        (sends_here _ _ _ _ _ c.in-Ok-Whole.head
-        (take (c.in-Ok-Whole.to - c.in-Ok-Whole.from) (drop c.in-Ok-Whole.from c.rest-in-Ok-Whole.result.now)) _ _ _ _
-        c.requests.invariant.catalogue c.in_default.ensures.whole)
-        c.in_default.ensures.left_stays c.saturating_add-requests.ensures)
+      _ _ _ _ _ _ c.in-Ok-Whole.head c.in-Ok-Whole.from c.in-Ok-Whole.to _ _
+      (has_here _ _ (hands.Whole c.in-Ok-Whole.head c.in-Ok-Whole.from c.in-Ok-Whole.to) c.rest.ensures (rw c.in-Ok-Whole.field-0-is at c.in-Ok-Whole.ensures))
+      (rose_later _ _ _ c.in_default.ensures.keeper) (rose_since _ _ _ c.requests.invariant.keeper)
+      (ap (λ (i : List ℕ). take (c.in-Ok-Whole.to - c.in-Ok-Whole.from) (drop c.in-Ok-Whole.from i)) c.rest-in-Ok-Whole.ensures)
+      (sends_here _ _ _ _ _ c.in-Ok-Whole.head
+      (take (c.in-Ok-Whole.to - c.in-Ok-Whole.from) (drop c.in-Ok-Whole.from c.rest-in-Ok-Whole.result.now)) _ _ _ _
+      c.requests.invariant.catalogue c.in_default.ensures.whole)
+      c.in_default.ensures.left_stays c.saturating_add-requests.ensures)
       c.if-head.false c.pass.new.self c.pass.ensures;
   catalogue = search rules;
   keeper = search rules;
@@ -91,7 +91,7 @@ pub returns-in-Err-more-clause-serves : goal.returns-in-Err-more-clause-serves
 returns-in-Err-more-clause-serves g c =
     serves_broken _ _ _ _ _ _ _ _ _ _ c.in-Err-more.error c.end_by-in-Err-more.ensures
     (broke _ _ _ _ _ _ _ _ _ c.requests.inbox c.requests.out.items c.requests.invariant.progress
-      _ _ c.more.new.inbox c.in-Err-more.ensures.took c.in-Err-more.ensures.front)
+    _ _ c.more.new.inbox c.in-Err-more.ensures.took c.in-Err-more.ensures.front)
 
 pub returns-in-Err-more-clause-peer_fault : goal.returns-in-Err-more-clause-peer_fault
 returns-in-Err-more-clause-peer_fault g c =

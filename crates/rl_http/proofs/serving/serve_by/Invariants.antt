@@ -6,7 +6,7 @@ use Rattle.rl_http.proofs.serving.serve_by.Given as goal
 abbrev pub invariant-requests : goal.invariant-requests
 invariant-requests g l = record {
   progress : Progress l.fn.desk.catalogue (Rose (g.K.Keeper.faults l.fn.desk.keeper) (g.K.Keeper.faults l.desk.keeper)) l.fn.desk.entries l.desk.entries
-    (g.C.Conn.left l.fn.conn) (g.C.Conn.left l.conn) (g.C.Conn.written l.fn.conn) (g.C.Conn.written l.conn) l.requests l.inbox l.out.items;
+      (g.C.Conn.left l.fn.conn) (g.C.Conn.left l.conn) (g.C.Conn.written l.fn.conn) (g.C.Conn.written l.conn) l.requests l.inbox l.out.items;
   catalogue : l.desk.catalogue ≡ l.fn.desk.catalogue;
   keeper : g.K.Keeper.faults l.fn.desk.keeper ≤ g.K.Keeper.faults l.desk.keeper;
   later : g.C.Conn.faults l.fn.conn ≤ g.C.Conn.faults l.conn;
