@@ -1,15 +1,19 @@
 //! The program `loader`: the top call over the files of the system and standard output.
 #![tactic(auto)]
 
-use rl_base::{DirTree, Observer, Reason, Recorder, StdSink};
+mod end;
+mod serve;
+
+use crate::end::End;
+use rl_base::{DirTree, Observer, Recorder, StdSink};
 use rl_cli::{Report, Status, run};
-use rl_defs::CatalogError;
 use rl_names::{Name, NameError};
-use rl_script_spec::Unready;
 use std::alloc::{AllocError, Global};
 use std::env;
 use std::io::ErrorKind;
+use std::net::{Net, TcpListener, TcpStream};
 use std::process::ExitCode;
+use std::sync::Wait;
 
 const VERSION: &str = "loader 0.1.0\n";
 
@@ -19,6 +23,7 @@ loader: both ends of a wiki's loader of scripts
   loader drive SCRIPT                            what the client does with the rows, requests and parts of a script
   loader load DEFS PAGES VIEWER QUERY            what a wiki answers to a query of a viewer
   loader startup DEFS PAGES VIEWER LANG SKIN     what a client of a viewer starts from, in a language and with a skin
+  loader serve DB DEFS PORT                      the wiki of a database over HTTP, on a port of this machine
   loader --help                                  this text
   loader --version                               the version of the program
 
@@ -28,34 +33,13 @@ name of a user, or - for nobody.
 Before the words of a command there may be options, any number of times:
 
   --throw NAME                        the script of the module NAME throws where it executes
+  --idle SECONDS                      before `serve`, once: a peer may be silent for so long, and not for 10 seconds
 
 A file word may lead anywhere that the user may read; one that does not begin with `/`
 leads from the current folder. The status is 0, or 2 where words or a file are at fault,
 3 where something requested is not ready, 4 where reading or writing failed, and 5 for
 want of memory.
 ";
-
-/// How the program ends, and what that is about.
-struct End {
-    status: Status,
-    word: u32,
-    breach: Option<CatalogError>,
-    unready: Option<Unready>,
-    reason: Option<Reason>,
-}
-
-impl End {
-    /// A status that is about no word.
-    fn plain(status: Status) -> End {
-        End {
-            status,
-            word: 0,
-            breach: None,
-            unready: None,
-            reason: None,
-        }
-    }
-}
 
 /// Prints a text of the program's own.
 fn print(rt: &HostRuntime, text: &str) -> End {
@@ -147,12 +131,33 @@ fn ended(rt: &HostRuntime, words: &[&str], end: End) -> ExitCode {
     ExitCode::from(status.code())
 }
 
+/// The seconds of the option `--idle`, where one stands before `serve`, and the words from `serve` on.
+fn served_words<'a, 'b>(words: &'b [&'a str]) -> Option<(u64, &'b [&'a str])> {
+    match words {
+        ["serve", ..] => Some((serve::IDLE, words)),
+        ["--idle", seconds, "serve", ..] => {
+            let seconds = seconds.parse::<u64>().ok()?;
+            Some((seconds, &words[2..]))
+        }
+        _ => None,
+    }
+}
+
 /// Answers the words of a command line.
-fn answered(rt: &HostRuntime, texts: &[String]) -> Result<ExitCode, AllocError> {
+fn answered<L>(rt: &HostRuntime, live: &L, texts: &[String]) -> Result<ExitCode, AllocError>
+where
+    L: Wait + Net<Listener = TcpListener, Stream = TcpStream>,
+{
     let thrown = thrown_names(rt.alloc(), texts)?;
     let mut words = Vec::with_capacity(rt.alloc(), texts.len())?;
     for text in texts.iter().skip(thrown.len().saturating_mul(2)) {
         words.push(text.as_str())?;
+    }
+    if let Some((idle, words)) = served_words(words.as_slice()) {
+        return match serve::serve(rt, live, words, idle) {
+            Ok(status) => Ok(ExitCode::from(status.code())),
+            Err(end) => Ok(ended(rt, words, end)),
+        };
     }
     let end = answer(rt, words.as_slice(), thrown)?;
     Ok(ended(rt, words.as_slice(), end))
@@ -166,7 +171,7 @@ fn main(rt: HostRuntime) -> ExitCode {
         Err(_) => return ended(&rt, &[], End::plain(Status::BadWords)),
     };
     match texts {
-        Ok(texts) => match answered(&rt, texts.as_slice()) {
+        Ok(texts) => match answered(&rt, &rt, texts.as_slice()) {
             Ok(code) => code,
             Err(AllocError) => ended(&rt, &[], End::plain(Status::NoMemory)),
         },

@@ -1,5 +1,6 @@
 -- Fronts of the input as heads.
-use Rattle.std.proofs.Common.{◌≡◌, ℕ, ◌+◌, ◌-◌, ◌<◌, ◌≤◌, List, ◌++◌, length, take, drop, Ok, Result, ap, sym, subst, ◌∙◌, inl, arith, append_assoc}
+use Rattle.std.proofs.Common.{◌≡◌, ℕ, ◌+◌, ◌-◌, ◌<◌, ◌≤◌, List, ◌++◌, length, take, drop, Ok, Result}
+use Rattle.std.proofs.Common.{ap, sym, subst, ◌∙◌, inl, arith, append_assoc}
 use Rattle.std.proofs.lemmas.Grind.{common_steps}
 use Rattle.std.proofs.lemmas.List.{take-append-drop}
 use Rattle.std.proofs.Math.Seq.{drop-append_seam, take-append-add}
@@ -28,7 +29,8 @@ begins_in bytes n used said b = (
 )
 
 -- a head in what is looked at
-pub begins_looked : (bytes input : List ℕ) (used : ℕ) (said : Result Head ℕ) → bytes ≡ looked_at input → BeginsWith bytes used said → BeginsWith input used said
+pub begins_looked : (bytes input : List ℕ) (used : ℕ) (said : Result Head ℕ)
+    → bytes ≡ looked_at input → BeginsWith bytes used said → BeginsWith input used said
 begins_looked bytes input used said e b = begins_in input 16384 used said (subst (λ (t : List ℕ). BeginsWith t used said) e b)
 
 pub reads_looked : (bytes input : List ℕ) (read : HeadRead) → bytes ≡ looked_at input → ReadsHead bytes read → ReadsHead (looked_at input) read
@@ -45,7 +47,8 @@ take_front p q to h =
     e ∙ ap (λ (t : List ℕ). p ++ t) (sym (ap (drop (length p)) e ∙ drop-append_seam p (take (to - length p) q)))
 
 -- a front that holds the head begins with it
-pub begins_cut : (input : List ℕ) (to used : ℕ) (said : Result Head ℕ) → used ≤ to → BeginsWith input used said → BeginsWith (take to input) used said
+pub begins_cut : (input : List ℕ) (to used : ℕ) (said : Result Head ℕ)
+    → used ≤ to → BeginsWith input used said → BeginsWith (take to input) used said
 begins_cut input to used said h b =
     let whole : input ≡ print_request b.0 ++ drop used input = b.1.1 in
     let small : length (print_request b.0) ≤ to = omega (arith, b.2) in

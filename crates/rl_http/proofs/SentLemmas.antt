@@ -37,7 +37,8 @@ gives_sent written0 written1 written2 out text out1 e f none = (
 )
 
 -- a front of one text is one of it and what follows
-pub front_before : (written0 written1 : Option (List ℕ)) (out text : List ℕ) → AppendsFront written0 out written1 → AppendsFront written0 (out ++ text) written1
+pub front_before : (written0 written1 : Option (List ℕ)) (out text : List ℕ)
+    → AppendsFront written0 out written1 → AppendsFront written0 (out ++ text) written1
 front_before written0 written1 out text (count, few, w) =
     (count, within out text count few, w ∙ ap (appended written0) (sym (shorter count out text few)))
   where

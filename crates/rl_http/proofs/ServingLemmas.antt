@@ -1,5 +1,6 @@
 -- One connection served, request by request.
-use Rattle.std.proofs.Common.{◌≡◌, ℕ, ◌+◌, ◌-◌, ◌^◌, ◌<◌, ◌≤◌, List, [], ◌∷◌, ◌++◌, length, take, drop, Bool, true, false, Option, Some, None, Ok}
+use Rattle.std.proofs.Common.{◌≡◌, ℕ, ◌+◌, ◌-◌, ◌^◌, ◌<◌, ◌≤◌, List, [], ◌∷◌, ◌++◌, length, take, drop}
+use Rattle.std.proofs.Common.{true, false, Option, Some, None, Ok}
 use Rattle.std.proofs.Common.{min, refl, ap, sym, subst, ◌∙◌, inl, inr, arith, append_assoc, append-nil}
 use Rattle.std.proofs.lemmas.List.{take-append-drop, drop-take, length-take-le}
 use Rattle.rl_base.specs.Causes.{Rose}
@@ -79,7 +80,8 @@ leads_later catalogue r s before (x ∷ xs) after f (mid, l, replies) =
 abbrev exchange : List ℕ → Head → ℕ → ℕ → List ℕ → Exchange
 exchange input head from to text = record { bytes = take to input; head = head; body = take (to - from) (drop from input); text = text }
 
-is_request : (input : List ℕ) (head : Head) (from to : ℕ) (text : List ℕ) → HasRequest input head from to → IsRequest (exchange input head from to text)
+is_request : (input : List ℕ) (head : Head) (from to : ℕ) (text : List ℕ)
+    → HasRequest input head from to → IsRequest (exchange input head from to text)
 is_request input head from to text has =
     let sum : from + (to - from) ≡ to = omega (arith, has.ends) in
     record {
@@ -112,8 +114,10 @@ had_still catalogue r t before mid left0 left1 left2 xs input had f same = recor
   leads = leads_later catalogue r t before xs mid f had.leads;
 }
 
-had_moved : (catalogue : Catalogue) (r : Type 0) (before mid : List Entry) (left0 left1 left2 : Option (List ℕ)) (xs : List Exchange) (input0 input1 : List ℕ)
-    → Had catalogue r before mid left0 left1 xs input0 → after_front input0 left1 ≡ after_front input1 left2 → Had catalogue r before mid left0 left2 xs input1
+had_moved : (catalogue : Catalogue) (r : Type 0) (before mid : List Entry) (left0 left1 left2 : Option (List ℕ))
+    (xs : List Exchange) (input0 input1 : List ℕ)
+    → Had catalogue r before mid left0 left1 xs input0
+    → after_front input0 left1 ≡ after_front input1 left2 → Had catalogue r before mid left0 left2 xs input1
 had_moved catalogue r before mid left0 left1 left2 xs input0 input1 had took = record {
   each = had.each;
   came = moved left0 left1 left2 (bytes_of xs) input0 input1 had.came took;
@@ -121,8 +125,8 @@ had_moved catalogue r before mid left0 left1 left2 xs input0 input1 had took = r
 }
 
 -- what was had, and the next request with its answer
-had_more : (catalogue : Catalogue) (r s t : Type 0) (before mid after : List Entry) (left0 left1 left2 : Option (List ℕ)) (xs : List Exchange) (input : List ℕ)
-    (head : Head) (from to : ℕ) (text : List ℕ)
+had_more : (catalogue : Catalogue) (r s t : Type 0) (before mid after : List Entry) (left0 left1 left2 : Option (List ℕ))
+    (xs : List Exchange) (input : List ℕ) (head : Head) (from to : ℕ) (text : List ℕ)
     → Had catalogue r before mid left0 left1 xs input → HasRequest input head from to → (r → t) → (s → t)
     → Replies mid s (http_reply catalogue mid head (take (to - from) (drop from input))) text after → left2 ≡ left1
     → Had catalogue t before after left0 left2 (exchange input head from to text ∷ xs) (drop to input)
@@ -137,7 +141,8 @@ had_more catalogue r s t before mid after left0 left1 left2 xs input head from t
 }
 
 -- a connection that refused a call, by its refusal
-pub serves_broken : (catalogue : Catalogue) (t : Type 0) (before after : List Entry) (left0 left1 written0 written1 : Option (List ℕ)) (n : ℕ) (end : End) (error : ConnError)
+pub serves_broken : (catalogue : Catalogue) (t : Type 0) (before after : List Entry) (left0 left1 written0 written1 : Option (List ℕ))
+    (n : ℕ) (end : End) (error : ConnError)
     → end ≡ end_by error → ((end : End) → Broken catalogue t before after left0 left1 written0 written1 record { requests = n; end = end })
     → Serves catalogue t before after left0 left1 written0 written1 record { requests = n; end = end }
 serves_broken catalogue t before after left0 left1 written0 written1 n end error is broken =
@@ -149,7 +154,8 @@ serves_broken catalogue t before after left0 left1 written0 written1 n end error
 
 -- ---- the loop's steps
 
-module _ (catalogue : Catalogue) (r : Type 0) (before mid : List Entry) (left0 left1 written0 written1 : Option (List ℕ)) (n : ℕ) (input out : List ℕ)
+module _ (catalogue : Catalogue) (r : Type 0) (before mid : List Entry) (left0 left1 written0 written1 : Option (List ℕ))
+    (n : ℕ) (input out : List ℕ)
     (p : Progress catalogue r before mid left0 left1 written0 written1 n input out) where
   -- more bytes came, and what was collected was sent
   pub read_more : (left2 written2 : Option (List ℕ)) (input2 out2 : List ℕ)
@@ -270,7 +276,8 @@ module _ (catalogue : Catalogue) (r : Type 0) (before mid : List Entry) (left0 l
 
   -- no more bytes came
   pub ends_here : (left2 written2 : Option (List ℕ)) (input2 : List ℕ) (end : End)
-      → IsPart input → after_front input left1 ≡ after_front input2 left2 → (input2 ≡ input) × IsAtEnd left2 → written2 ≡ appended written1 out → end ≡ end_of input2
+      → IsPart input → after_front input left1 ≡ after_front input2 left2 → (input2 ≡ input) × IsAtEnd left2
+      → written2 ≡ appended written1 out → end ≡ end_of input2
       → Serves catalogue r before mid left0 left2 written0 written2 record { requests = n; end = end }
   ends_here left2 written2 input2 end part took (same, none) e is =
       subst (λ (x : End). Serves catalogue r before mid left0 left2 written0 written2 record { requests = n; end = x }) (sym (is ∙ ap end_of same))
@@ -323,10 +330,12 @@ module _ (catalogue : Catalogue) (r : Type 0) (before mid : List Entry) (left0 l
       serves_broken catalogue r before mid left0 left2 written0 written2 n end error is
       (broke left2 written2 input (ap (after_front input) (sym same)) front)
 
-module _ (catalogue : Catalogue) (t : Type 0) (before after : List Entry) (left0 left1 written0 written1 : Option (List ℕ)) (m : ℕ) (head : Head) (input out : List ℕ)
+module _ (catalogue : Catalogue) (t : Type 0) (before after : List Entry) (left0 left1 written0 written1 : Option (List ℕ))
+    (m : ℕ) (head : Head) (input out : List ℕ)
     (a : Answered catalogue t before after left0 left1 written0 written1 m head input out) where
   -- the connection goes on
-  pub goes_next : head.last ≡ false → (input2 : List ℕ) → input2 ≡ input → Progress catalogue t before after left0 left1 written0 written1 m input2 out
+  pub goes_next : head.last ≡ false → (input2 : List ℕ) → input2 ≡ input
+      → Progress catalogue t before after left0 left1 written0 written1 m input2 out
   goes_next last input2 e = record {
     xs = a.x ∷ a.xs;
     goes = (ap (λ (h : Head). h.last) a.is ∙ last, a.goes);
@@ -381,7 +390,8 @@ rose_since a b c h r = omega (arith, r)
 pub has_here : (bytes input : List ℕ) (hand : Hand) → bytes ≡ input → IsHand bytes hand → IsHand input hand
 has_here bytes input hand e h = subst (λ (i : List ℕ). IsHand i hand) e h
 
-pub sends_here : (here catalogue : Catalogue) (s : Type 0) (mid after : List Entry) (head : Head) (body out out1 : List ℕ) (written0 written1 : Option (List ℕ))
+pub sends_here : (here catalogue : Catalogue) (s : Type 0) (mid after : List Entry) (head : Head) (body out out1 : List ℕ)
+    (written0 written1 : Option (List ℕ))
     → here ≡ catalogue → Sends s mid (http_reply here mid head body) after written0 out written1 out1
     → Sends s mid (http_reply catalogue mid head body) after written0 out written1 out1
 sends_here here catalogue s mid after head body out out1 written0 written1 e x =

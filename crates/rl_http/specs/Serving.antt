@@ -1,6 +1,6 @@
 -- One connection served: the requests that were read whole, what was sent, and why it ended.
-use Rattle.std.specs.Prelude.{◌≡◌, ◌≢◌, ◌==◌, ℕ, ◌+◌, ◌-◌, ◌^◌, ◌<◌, ◌≤◌, ◌⊎◌, ◌++◌, ◌∷◌, [], List, Bool, true, false, cond, if◌then◌else◌}
-use Rattle.std.specs.Prelude.{min, length, take, drop, Option, IfSome, Ok}
+use Rattle.std.specs.Prelude.{◌≡◌, ◌≢◌, ◌==◌, ℕ, ◌+◌, ◌-◌, ◌^◌, ◌<◌, ◌≤◌, ◌⊎◌, ◌++◌, ◌∷◌, [], List}
+use Rattle.std.specs.Prelude.{Bool, true, false, cond, if◌then◌else◌, min, length, take, drop, Option, IfSome, Ok}
 use Rattle.rl_base.specs.Connection.{after_front}
 use Rattle.rl_base.specs.Written.{appended}
 use Rattle.rl_base.specs.declared.conn.ConnError.{ConnError}

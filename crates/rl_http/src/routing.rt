@@ -54,7 +54,7 @@ fn routed(method: &str, call: Option<Call>) -> Route
 }
 
 impl Routes {
-    /// The paths of a wiki.
+    /// The paths of a wiki. That its type finds just these is all that is to be said of it.
     pub fn new(alloc: Global) -> Result<Routes, NoMemory> {
         let mut router = Router::new(alloc);
         add(&mut router, "/load.php", Call::Load)?;

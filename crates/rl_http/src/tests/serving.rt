@@ -169,7 +169,7 @@ fn each_call_fails(rt: HostRuntime) -> Result<(), Fail> {
 /// A head of so many bytes, and at least 24, and then a body of so many bytes.
 fn padded(alloc: Global, front: &[u8], head: usize, body: usize) -> Result<Vec<u8>, Fail> {
     let mut bytes = Vec::from_slice(alloc, front)?;
-    while bytes.len().saturating_add(4) < head {
+    for _ in front.len()..head.saturating_sub(4) {
         bytes.push(b'a')?;
     }
     bytes.extend_from_slice(b"\r\n\r\n")?;

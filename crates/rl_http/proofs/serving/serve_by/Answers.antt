@@ -29,7 +29,8 @@ returns-in-Err-answer-clause-serves g c =
 
 pub returns-in-Err-answer-clause-peer_fault : goal.returns-in-Err-answer-clause-peer_fault
 returns-in-Err-answer-clause-peer_fault g c =
-    peer_by c.in-Err-answer.error c.end_by.result _ c.end_by.ensures (λ e. rose_since _ _ _ c.requests.invariant.later (c.in-Err-answer.ensures.failed (ap Err e)))
+    peer_by c.in-Err-answer.error c.end_by.result _ c.end_by.ensures
+    (λ e. rose_since _ _ _ c.requests.invariant.later (c.in-Err-answer.ensures.failed (ap Err e)))
 
 pub returns-then-head-clause-serves : goal.returns-then-head-clause-serves
 returns-then-head-clause-serves g c =
