@@ -23,6 +23,7 @@ loader: both ends of a wiki's loader of scripts
   loader drive SCRIPT                            what the client does with the rows, requests and parts of a script
   loader load DEFS PAGES VIEWER QUERY            what a wiki answers to a query of a viewer
   loader startup DEFS PAGES VIEWER LANG SKIN     what a client of a viewer starts from, in a language and with a skin
+  loader check DEFS PAGES                        what an author is told of a wiki: how much it has, and which gadget lines count
   loader serve DB DEFS PORT                      the wiki of a database over HTTP, on a port of this machine
   loader --help                                  this text
   loader --version                               the version of the program

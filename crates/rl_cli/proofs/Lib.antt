@@ -1,5 +1,6 @@
 pub mod PagesLemmas
 pub mod AnswersLemmas
+pub mod CheckLemmas
 pub mod FetchedLemmas
 pub mod FilesLemmas
 pub mod HeardLemmas

@@ -26,8 +26,8 @@ use Rattle.rl_wiki.specs.Wiki.{WikiState}
 use Rattle.rl_loadphp.specs.Refusal as query
 use Rattle.rl_loadphp.specs.declared.answers.Answer.{Answer}
 use Rattle.rl_cli.specs.Verdict.{Verdict, of_query, Fault as Refused, Exceeds, of_script, of_breach, of_answer, of_lines, file_at, verdict_on}
-use Rattle.rl_cli.specs.Verdict.{of_load, of_start, steps_in, wiki_in, wiki_with}
-use Rattle.rl_cli.specs.Words.{Command, Drive, Load, Startup}
+use Rattle.rl_cli.specs.Verdict.{of_check, of_load, of_start, steps_in, wiki_in, wiki_with}
+use Rattle.rl_cli.specs.Words.{Command, Drive, Load, Startup, Check}
 
 abbrev IsOfContent : script.Verdict → Type 0
 IsOfContent (TooMany what count) = what ≢ counted.FileBytes
@@ -112,6 +112,10 @@ start_of_work : (viewer : Viewer) (lang skin : Text) (wiki : Result WikiState Re
 start_of_work viewer lang skin (Ok wiki) h = tt
 start_of_work viewer lang skin (Err fault) h = h
 
+check_of_work : (wiki : Result WikiState Refused) → IsOfWiki wiki → IsOfWork (of_check wiki)
+check_of_work (Ok wiki) h = tt
+check_of_work (Err fault) h = h
+
 files_of_work : (paged : Bool) (files : List Text) → IsOfWiki (wiki_in paged files)
 files_of_work paged files = wiki_of_work (reading (file_at files 0)) (steps_in paged files) (reading_is_of_definitions (file_at files 0))
 
@@ -119,6 +123,7 @@ pub is_of_work : (throws : Throws) (command : Command) (files : List Text) → I
 is_of_work throws Drive files = script_of_work 1 (unready_in throws (file_at files 0)) (verdict_of throws (file_at files 0)) (is_of_content throws (file_at files 0))
 is_of_work throws (Load paged viewer asked) files = load_of_work viewer asked (wiki_in paged files) (files_of_work paged files)
 is_of_work throws (Startup paged viewer lang skin) files = start_of_work viewer lang skin (wiki_in paged files) (files_of_work paged files)
+is_of_work throws (Check paged) files = check_of_work (wiki_in paged files) (files_of_work paged files)
 
 -- ---- a refusal that is told
 

@@ -10,3 +10,4 @@ pub mod Told
 pub mod Verdict
 pub mod Words
 pub mod Written
+pub mod Check

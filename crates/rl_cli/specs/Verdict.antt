@@ -28,8 +28,9 @@ use Rattle.rl_script.specs.declared.script.ScriptError.TheVariants as pages
 use Rattle.rl_steps.specs.Script.{script_of}
 use Rattle.rl_steps.specs.declared.script.Kinds.TheVariants.{Pages}
 use Rattle.rl_steps.specs.declared.step.Step.{Step}
+use Rattle.rl_cli.specs.Check.{check_text}
 use Rattle.rl_cli.specs.Pages.{history_of}
-use Rattle.rl_cli.specs.Words.{Command, Drive, Load, Startup}
+use Rattle.rl_cli.specs.Words.{Command, Drive, Load, Startup, Check}
 use Rattle.rl_cli.specs.declared.work.Printed.{Printed}
 use Rattle.rl_cli.specs.declared.work.WorkError.{WorkError}
 use Rattle.rl_cli.specs.declared.work.WorkError.TheVariants as errors
@@ -112,17 +113,24 @@ of_start viewer lang skin (Ok wiki) = Ok record {
 }
 of_start viewer lang skin (Err fault) = Err fault
 
+-- What an author is told of the wiki is printed. It has no requests.
+abbrev pub of_check : Result WikiState Fault → Verdict
+of_check (Ok wiki) = Ok record { text = check_text wiki.catalogue wiki.entries; ready = true; word = 0; unready = None }
+of_check (Err fault) = Err fault
+
 -- what a command makes of the bytes of its files, where observers throw for these scripts
 abbrev pub verdict_on : Throws → Command → List Text → Verdict
 verdict_on throws Drive files = of_script 1 (unready_in throws (file_at files 0)) (script.verdict_of throws (file_at files 0))
 verdict_on throws (Load paged viewer asked) files = of_load viewer asked (wiki_in paged files)
 verdict_on throws (Startup paged viewer lang skin) files = of_start viewer lang skin (wiki_in paged files)
+verdict_on throws (Check paged) files = of_check (wiki_in paged files)
 
 -- what it executes
 abbrev pub executed_by : Throws → Command → List Text → List (Key × Text)
 executed_by throws Drive files = executions_in throws (file_at files 0)
 executed_by throws (Load paged viewer asked) files = []
 executed_by throws (Startup paged viewer lang skin) files = []
+executed_by throws (Check paged) files = []
 
 -- All that it executes is heard of, or a front of it where memory ran out. Where the work comes to nothing, nothing is.
 abbrev pub IsHeard : Result Printed WorkError → List (Key × Text) → List (List (Key × Text)) → List (List (Key × Text)) → Type 0

@@ -13,6 +13,7 @@ pub data Command : Type 0 where
   Drive : Command
   Load : (paged : Bool) (viewer : Viewer) (query : Text) → Command
   Startup : (paged : Bool) (viewer : Viewer) (lang skin : Text) → Command
+  Check : (paged : Bool) → Command
 
 -- `drive SCRIPT`
 abbrev pub drive_of : List Text → Option Command
@@ -39,9 +40,14 @@ startup_of (word ∷ definitions ∷ pages ∷ viewer ∷ lang ∷ skin ∷ []) 
     if bytes_eq word (codes "startup") then option_map (λ who. Startup (is_file pages) who lang skin) (viewer_named viewer) else None
 startup_of other = None
 
+-- `check DEFS PAGES`
+abbrev pub check_of : List Text → Option Command
+check_of (word ∷ definitions ∷ pages ∷ []) = if bytes_eq word (codes "check") then Some (Check (is_file pages)) else None
+check_of other = None
+
 -- no other words are a command
 abbrev pub command_of : List Text → Option Command
-command_of words = option_or (drive_of words) (option_or (load_of words) (startup_of words))
+command_of words = option_or (drive_of words) (option_or (load_of words) (option_or (startup_of words) (check_of words)))
 
 -- the places of the definitions and of the pages
 abbrev pub files_with : Bool → List ℕ
@@ -52,6 +58,7 @@ abbrev pub files_of : Command → List ℕ
 files_of Drive = 1 ∷ []
 files_of (Load paged viewer query) = files_with paged
 files_of (Startup paged viewer lang skin) = files_with paged
+files_of (Check paged) = files_with paged
 
 -- the word of a place
 abbrev pub word_at : List Text → ℕ → Text

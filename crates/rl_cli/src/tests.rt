@@ -1,5 +1,6 @@
 //! What no clause says: printed bytes, statuses with ample memory, and an outside that fails.
 
+mod check;
 mod limits;
 mod observers;
 mod outside;

@@ -1,6 +1,6 @@
 //! The words of a call: which command they are, and which of them name files.
 ghost use Rattle.std.specs.Prelude.{◌≡◌, IfOk, option_map};
-ghost use Rattle.rl_cli.specs.Words.{command_of, drive_of, load_of, startup_of, is_file, viewer_named, files_with, texts, files_of, word_at as word_of};
+ghost use Rattle.rl_cli.specs.Words.{command_of, check_of, drive_of, load_of, startup_of, is_file, viewer_named, files_with, texts, files_of, word_at as word_of};
 ghost use Rattle.rl_cli.specs.Meant.{meant};
 
 use rl_names::{NoMemory, Text, UserName, UserNameError};
@@ -24,6 +24,10 @@ pub enum Command<'a> {
         viewer: Viewer,
         lang: &'a str,
         skin: &'a str,
+    },
+    /// `check DEFS PAGES`: what an author is told of a wiki of these definitions and pages.
+    Check {
+        paged: bool,
     },
 }
 
@@ -105,6 +109,21 @@ fn startup_words<'a>(alloc: Global, words: &[&'a str]) -> Result<Option<Command<
     }
 }
 
+/// The words `check DEFS PAGES`.
+fn check_words<'a>(words: &[&'a str]) -> Option<Command<'a>>
+    ensures { option_map meant result ≡ check_of (texts words.now) }
+{
+    let [word, _definitions, pages] = words else {
+        return None;
+    };
+    if *word == "check" {
+        let paged = is_file(pages);
+        Some(Command::Check { paged })
+    } else {
+        None
+    }
+}
+
 /// The places of the definitions and of the pages.
 fn files_with(paged: bool) -> &'static [u32]
     ensures { result.now ≡ files_with paged }
@@ -123,7 +142,10 @@ impl<'a> Command<'a> {
         if let Some(command) = load_words(alloc, words)? {
             return Ok(Some(command));
         }
-        startup_words(alloc, words)
+        if let Some(command) = startup_words(alloc, words)? {
+            return Ok(Some(command));
+        }
+        Ok(check_words(words))
     }
 
     /// The places of the words that name its files, in their order. The word of the command has
@@ -133,7 +155,9 @@ impl<'a> Command<'a> {
     {
         match self {
             Command::Drive => &[1],
-            Command::Load { paged, .. } | Command::Startup { paged, .. } => files_with(*paged),
+            Command::Load { paged, .. }
+            | Command::Startup { paged, .. }
+            | Command::Check { paged } => files_with(*paged),
         }
     }
 }

@@ -19,6 +19,7 @@ ghost use Rattle.rl_cli.specs.Verdict.{
   fault_told,
   file_at,
   of_breach as fault_of_breach,
+  of_check,
   of_lines as fault_of_lines,
   of_load,
   of_query as fault_of_query,
@@ -29,6 +30,7 @@ ghost use Rattle.rl_cli.specs.Verdict.{
   wiki_in,
 };
 
+use crate::check::check_text;
 use crate::pages::take_steps;
 use crate::words::Command;
 use rl_base::Hears;
@@ -100,6 +102,7 @@ pub fn work<H: Hears>(
             lang,
             skin,
         } => startup(alloc, *paged, files, viewer, lang, skin),
+        Command::Check { paged } => check(alloc, *paged, files),
     }
 }
 
@@ -297,6 +300,22 @@ fn startup(
     match startup_of(alloc, &wiki, viewer, lang, skin) {
         Ok(text) => Ok(Printed {
             text: Blob::from_vec(text.into_string().into_bytes()),
+            ready: true,
+            word: 0,
+            unready: None,
+        }),
+        Err(NoMemory) => Err(WorkError::NoMemory),
+    }
+}
+
+/// What an author is told of a wiki.
+fn check(alloc: Global, paged: bool, files: &[Blob]) -> Result<Printed, WorkError>
+    ensures { Gives fault_told result (of_check (wiki_in paged files.now)) }
+{
+    let wiki = wiki_of(alloc, paged, files)?;
+    match check_text(alloc, &wiki) {
+        Ok(text) => Ok(Printed {
+            text: Blob::from_vec(text),
             ready: true,
             word: 0,
             unready: None,

@@ -41,3 +41,10 @@ returns-in-Startup-clause-heard g c =
     let told = g.H.Hears.told c.args.observers.now in
     let P : Command → Type 0 = λ command. IsHeard c.startup.result (executed_by throws (meant command) c.args.files.now) told told in
     subst P (sym c.in-Startup.is) (nothing_heard c.startup.result told)
+
+pub returns-in-Check-clause-heard : goal.returns-in-Check-clause-heard
+returns-in-Check-clause-heard g c =
+    let throws : Throws = throws_by (g.H.Hears.says c.args.observers.now) in
+    let told = g.H.Hears.told c.args.observers.now in
+    let P : Command → Type 0 = λ command. IsHeard c.check.result (executed_by throws (meant command) c.args.files.now) told told in
+    subst P (sym c.in-Check.is) (nothing_heard c.check.result told)
