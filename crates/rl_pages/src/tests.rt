@@ -150,3 +150,36 @@ fn two_spellings_of_one_page(rt: HostRuntime) -> Result<(), Fail> {
     assert!(rt; pages.str_seen(&bob, &title).is_none());
     Ok(())
 }
+
+/// Whether these many edits of one page by Ann are taken, the first of which starts from this revision.
+fn are_taken(alloc: Global, pages: &mut Pages, policy: &Policy, from: u64, to: u64) -> bool {
+    for base in from..to {
+        if edited(alloc, pages, policy, "Ann", "Talk", base, "").ok() != base.checked_add(1) {
+            return false;
+        }
+    }
+    true
+}
+
+/// A text and a history may be as long as their limits, and no longer.
+#[test]
+fn at_the_limits(rt: HostRuntime) -> Result<(), Fail> {
+    let alloc = rt.alloc();
+    let policy = policy(alloc)?;
+    let mut pages = Pages::empty(alloc)?;
+    let longest = "x".repeat(alloc, 2_097_152)?;
+    let answer = edited(
+        alloc,
+        &mut pages,
+        &policy,
+        "Ann",
+        "Talk",
+        0,
+        longest.as_str(),
+    );
+    assert!(rt; answer == Ok(1));
+    assert!(rt; are_taken(alloc, &mut pages, &policy, 1, 100_000));
+    let answer = edited(alloc, &mut pages, &policy, "Ann", "Talk", 100_000, "");
+    assert!(rt; matches!(answer, Err(EditError::Full { .. })));
+    Ok(())
+}

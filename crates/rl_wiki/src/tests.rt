@@ -184,13 +184,14 @@ fn choice(alloc: Global, key: &str) -> Result<Entry, Fail> {
     })
 }
 
-/// A desk over a keeper of these entries, whose calls of these numbers fail.
-fn opened(
+/// A desk by these definitions over a keeper of these entries, whose calls of these numbers fail.
+fn opened_by(
     alloc: Global,
+    definitions: &[u8],
     entries: Vec<Entry>,
     failing: Vec<u64>,
 ) -> Result<Desk<MemKeeper>, OpenError> {
-    let Ok(catalog) = Catalog::read(alloc, b"[wiki]\nadmins = [\"Root\"]\n") else {
+    let Ok(catalog) = Catalog::read(alloc, definitions) else {
         return Err(OpenError::NoMemory);
     };
     let keeper = MemKeeper::new(alloc, entries, failing)?;
@@ -198,6 +199,15 @@ fn opened(
         Ok(desk) => Ok(desk),
         Err(turned) => Err(turned.why),
     }
+}
+
+/// The same of which Root is an admin.
+fn opened(
+    alloc: Global,
+    entries: Vec<Entry>,
+    failing: Vec<u64>,
+) -> Result<Desk<MemKeeper>, OpenError> {
+    opened_by(alloc, b"[wiki]\nadmins = [\"Root\"]\n", entries, failing)
 }
 
 #[test]
@@ -283,6 +293,39 @@ fn a_desk_that_opens_again(rt: HostRuntime) -> Result<(), Fail> {
     let entries = keeper.read_all()?;
     let again = opened(alloc, entries, Vec::new(alloc))?;
     assert!(rt; again.revisions() == 1 && again.catalog().admins().len() == 1);
+    Ok(())
+}
+
+/// An edit of the site's script by Root, as it was kept.
+fn admins_edit(alloc: Global) -> Result<Entry, Fail> {
+    Ok(Entry::Edit {
+        by: Text::of(alloc, "Root")?,
+        title: Title::read(alloc, b"MediaWiki:Common.js")?,
+        text: Text::of(alloc, "site()")?,
+    })
+}
+
+/// What a later edit of it by Root comes to.
+fn edited_again(alloc: Global, desk: &mut Desk<MemKeeper>) -> Result<u64, DeskEditError> {
+    let Ok(viewer) = Viewer::read(alloc, b"Root") else {
+        return Err(DeskEditError::NoMemory);
+    };
+    desk.edit(&viewer, b"MediaWiki:Common.js", 1, "other()")
+}
+
+/// What was kept stays in the history where Root is no admin any more, and Root edits no more.
+#[test]
+fn other_admins_over_what_was_kept(rt: HostRuntime) -> Result<(), Fail> {
+    let alloc = rt.alloc();
+    let entries = vec![in alloc; admins_edit(alloc)?]?;
+    let mut desk = opened_by(
+        alloc,
+        b"[wiki]\nadmins = [\"Ann\"]\n",
+        entries,
+        Vec::new(alloc),
+    )?;
+    let answer = edited_again(alloc, &mut desk);
+    assert!(rt; answer == Err(DeskEditError::NotAllowed) && desk.revisions() == 1);
     Ok(())
 }
 
