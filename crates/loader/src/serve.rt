@@ -7,7 +7,7 @@ use rl_defs::{Catalog, CatalogError};
 use rl_http::{TcpConn, serve_desk};
 use rl_keeper::{Keeper, SqlKeeper};
 use rl_names::{Counted, MAX_FILE_BYTES, NoMemory};
-use rl_wiki::Desk;
+use rl_wiki::{Desk, OpenError};
 use sqlite::Connection;
 use std::alloc::Global;
 use std::io::{self, Read};
@@ -131,6 +131,20 @@ fn serve_desk_at<L: Wait, K: Keeper>(
     Ok(())
 }
 
+/// How the program ends where what a keeper holds makes no desk. Of a bad entry a line is said.
+fn unopened(rt: &HostRuntime, why: OpenError) -> Status {
+    match why {
+        OpenError::Failed => Status::ReadFault,
+        OpenError::BadRecord { number } => {
+            let _ = eprintln!(rt;
+                "loader: entry {number} of the database breaks the rules of kept entries"
+            );
+            Status::ReadFault
+        }
+        OpenError::NoMemory => Status::NoMemory,
+    }
+}
+
 /// Serves what a keeper holds.
 fn serve_kept<L: Wait, K: Keeper + Drop>(
     rt: &HostRuntime,
@@ -145,11 +159,7 @@ fn serve_kept<L: Wait, K: Keeper + Drop>(
             Ok(()) => Status::Done,
             Err(_) => Status::WriteFault,
         },
-        Err(turned) => {
-            let why = turned.why;
-            let _ = eprintln!(rt; "loader: the database: {why}");
-            Status::ReadFault
-        }
+        Err(turned) => unopened(rt, turned.why),
     }
 }
 
@@ -163,7 +173,6 @@ fn serve_file<L: Wait>(
     idle: Duration,
 ) -> Status {
     let Ok(db) = Connection::open(rt, file) else {
-        say(rt, "the database could not be opened");
         return Status::ReadFault;
     };
     match SqlKeeper::over(rt.alloc(), db) {
@@ -214,7 +223,7 @@ fn definitions(rt: &HostRuntime, file: &str) -> Result<Catalog, End> {
 }
 
 /// Serves a wiki by the words of a command line, of which `serve` is the first: those that follow name the database, the
-/// definitions and the port. What is wrong with the words, the database or the port is said here.
+/// definitions and the port. What is wrong with the words or the port is said here.
 pub fn serve<L>(rt: &HostRuntime, live: &L, words: &[&str], idle: u64) -> Result<Status, End>
 where
     L: Wait + Net<Listener = TcpListener, Stream = TcpStream>,
@@ -228,15 +237,14 @@ where
     };
     let catalog = definitions(rt, words.defs)?;
     let Ok(listener) = TcpListener::bind(live, ("127.0.0.1", words.port)) else {
-        say(rt, "the port could not be listened on");
+        let port = words.port;
+        let _ = eprintln!(rt; "loader: port {port} could not be listened on");
         return Ok(Status::WriteFault);
     };
-    Ok(serve_file(
-        rt,
-        live,
-        words.db,
-        catalog,
-        &listener,
-        Duration::from_secs(idle),
-    ))
+    let idle = Duration::from_secs(idle);
+    match serve_file(rt, live, words.db, catalog, &listener, idle) {
+        Status::ReadFault => Err(End::at(Status::ReadFault, 1)),
+        Status::NoMemory => Err(End::plain(Status::NoMemory)),
+        status => Ok(status),
+    }
 }
