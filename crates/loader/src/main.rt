@@ -137,8 +137,10 @@ fn served_words<'a, 'b>(words: &'b [&'a str]) -> Option<(u64, &'b [&'a str])> {
     match words {
         ["serve", ..] => Some((serve::IDLE, words)),
         ["--idle", seconds, "serve", ..] => {
-            let seconds = seconds.parse::<u64>().ok()?;
-            Some((seconds, &words[2..]))
+            match seconds.parse::<u64>() {
+                Ok(seconds) if seconds > 0 => Some((seconds, &words[2..])),
+                _ => None,
+            }
         }
         _ => None,
     }

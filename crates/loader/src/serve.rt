@@ -13,13 +13,15 @@ use std::alloc::Global;
 use std::io::{self, Read};
 use std::net::{Net, Shutdown, TcpListener, TcpStream};
 use std::sync::Wait;
-use std::time::Duration;
+use std::time::{Duration, Instant};
 
 /// How many seconds a peer may be silent where no option says so.
 pub const IDLE: u64 = 10;
 
-/// How often the rest of what a peer sends is read once all is answered.
-const LAST_READS: u32 = 64;
+/// For how long, and how often at most, the rest of what a peer sends is read once all is answered.
+const LINGER: Duration = Duration::from_secs(1);
+
+const LAST_READS: u32 = 65_536;
 
 /// The words after `serve`.
 #[derive(Drop)]
@@ -61,12 +63,16 @@ fn set_limits(stream: &TcpStream, idle: Duration) -> io::Result<()> {
     stream.set_write_timeout(Some(idle))
 }
 
-/// Ends the writing side, and reads on for a while: what a peer still sends would else drop its answer.
-fn linger(mut stream: TcpStream) -> io::Result<()> {
+/// Ends the writing side, and reads on for a second at most: what a peer still sends would else drop its answer.
+fn linger(rt: &HostRuntime, mut stream: TcpStream) -> io::Result<()> {
     stream.shutdown(Shutdown::Write)?;
-    stream.set_read_timeout(Some(Duration::from_millis(1_000)))?;
+    let begun = Instant::now(rt)?;
     let mut rest = [0u8; 16_384];
     for _ in 0..LAST_READS {
+        let Some(left) = LINGER.checked_sub(begun.elapsed(rt)?) else {
+            return Ok(());
+        };
+        stream.set_read_timeout(Some(left))?;
         if stream.read(&mut rest)? == 0 {
             return Ok(());
         }
@@ -87,7 +93,7 @@ fn serve_one<L: Wait, K: Keeper>(
         rl_http::End::Closed | rl_http::End::Cut => {}
         rl_http::End::Asked | rl_http::End::Bad | rl_http::End::TooLong => {
             // A peer that is gone has no answer to lose.
-            let _ = linger(conn.into_stream());
+            let _ = linger(rt, conn.into_stream());
         }
         rl_http::End::PeerFault => say(
             rt,
