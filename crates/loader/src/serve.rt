@@ -18,8 +18,8 @@ use std::time::{Duration, Instant};
 /// How many seconds a peer may be silent where no option says so.
 pub const IDLE: u64 = 10;
 
-/// For how long, and how often at most, the rest of what a peer sends is read once all is answered.
-const LINGER: Duration = Duration::from_secs(1);
+/// For how many seconds, and how often at most, the rest of what a peer sends is read once all is answered.
+const LINGER: u64 = 1;
 
 const LAST_READS: u32 = 65_536;
 
@@ -69,7 +69,7 @@ fn linger(rt: &HostRuntime, mut stream: TcpStream) -> io::Result<()> {
     let begun = Instant::now(rt)?;
     let mut rest = [0u8; 16_384];
     for _ in 0..LAST_READS {
-        let Some(left) = LINGER.checked_sub(begun.elapsed(rt)?) else {
+        let Some(left) = Duration::from_secs(LINGER).checked_sub(begun.elapsed(rt)?) else {
             return Ok(());
         };
         stream.set_read_timeout(Some(left))?;
