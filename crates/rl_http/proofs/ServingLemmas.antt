@@ -19,30 +19,30 @@ use Rattle.rl_http.specs.Answers.{refused_text}
 use Rattle.rl_http.specs.Heads.{ReadsHead}
 use Rattle.rl_http.specs.Replies.{Reply, Replies, http_reply}
 use Rattle.rl_http.specs.Sent.{AppendsFront}
-use Rattle.rl_http.specs.Serving.{Exchange, IsRequest, bytes_of, texts_of, Leads, GoesOn, looked_at, IsAtEnd, IsPart, refusal_for, counted, end_of, end_by}
+use Rattle.rl_http.specs.Serving.{Exchange, IsRequest, IsAnswered, Moment, bytes_of, texts_of, Leads, GoesOn, looked_at, IsAtEnd, IsPart, refusal_for, counted, end_of, end_by}
 use Rattle.rl_http.specs.Serving.{Had, Ended, Broken, Serves, HasRequest, IsHand, Sends, SendsFront, Finishes, EndsBy}
 use Rattle.rl_http.proofs.HandLemmas.{begins_cut}
 use Rattle.rl_http.proofs.SentLemmas.{Sent, sent_none, sent_give, sent_whole, sent_flushed, sent_front, front_none, front_before}
 
 -- the state between two requests
 pub record Progress
-    (catalogue : Catalogue) (rose : Type 0) (before after : List Entry)
+    (catalogue : Catalogue) (before after : Moment)
     (left0 left1 written0 written1 : Option (List ℕ)) (requests : ℕ) (input out : List ℕ) : Type 0 where
   pub xs : List Exchange
   pub goes : GoesOn xs
-  pub had : Had catalogue rose before after left0 left1 xs input
+  pub had : Had catalogue before after left0 left1 xs input
   pub sent : Sent written0 written1 (texts_of xs) out
   pub count : requests ≡ counted (length xs)
 
 -- the state once a request is answered, of which the head is told
 pub record Answered
-    (catalogue : Catalogue) (rose : Type 0) (before after : List Entry)
+    (catalogue : Catalogue) (before after : Moment)
     (left0 left1 written0 written1 : Option (List ℕ)) (requests : ℕ) (head : Head) (input out : List ℕ) : Type 0 where
   pub x : Exchange
   pub xs : List Exchange
   pub goes : GoesOn xs
   pub is : x.head ≡ head
-  pub had : Had catalogue rose before after left0 left1 (x ∷ xs) input
+  pub had : Had catalogue before after left0 left1 (x ∷ xs) input
   pub sent : Sent written0 written1 (texts_of (x ∷ xs)) out
   pub count : requests ≡ counted (length (x ∷ xs))
 
@@ -54,27 +54,22 @@ after_more : (a b : List ℕ) (left : Option (List ℕ)) → after_front a (afte
 after_more a b None = refl
 after_more a b (Some l) = ap Some (sym (append_assoc a b l))
 
-pub begins : (catalogue : Catalogue) (rose : Type 0) (entries : List Entry) (left written : Option (List ℕ)) (input out : List ℕ)
-    → input ≡ [] → out ≡ [] → Progress catalogue rose entries entries left left written written 0 input out
-begins catalogue rose entries left written input out e f = record {
+pub begins : (catalogue : Catalogue) (at : Moment) (left written : Option (List ℕ)) (input out : List ℕ)
+    → input ≡ [] → out ≡ [] → Progress catalogue at at left left written written 0 input out
+begins catalogue at left written input out e f = record {
   xs = [];
   goes = tt;
-  had = record { each = tt; came = after_none left ∙ ap (λ (i : List ℕ). after_front i left) (sym e); leads = refl };
+  had = record { each = tt; came = after_none left ∙ ap (λ (i : List ℕ). after_front i left) (sym e); leads = (refl, omega arith) };
   sent = sent_none written out f;
   count = refl;
 }
 
--- a cause that grows
-replies_later : (r s : Type 0) (before : List Entry) (reply : Reply) (text : List ℕ) (after : List Entry)
-    → (r → s) → Replies before r reply text after → Replies before s reply text after
-replies_later r s before reply text after f (inl p) = inl p
-replies_later r s before reply text after f (inr p) = inr (f p.0, p.1, p.2, p.3)
-
-leads_later : (catalogue : Catalogue) (r s : Type 0) (before : List Entry) (xs : List Exchange) (after : List Entry)
-    → (r → s) → Leads catalogue r before xs after → Leads catalogue s before xs after
-leads_later catalogue r s before [] after f l = l
-leads_later catalogue r s before (x ∷ xs) after f (mid, l, replies) =
-    (mid, leads_later catalogue r s before xs mid f l, replies_later r s mid (http_reply catalogue mid x.head x.body) x.text after f replies)
+-- the same history, and faults that were counted since
+leads_on : (catalogue : Catalogue) (before mid after : Moment) (xs : List Exchange)
+    → after.entries ≡ mid.entries → mid.faults ≤ after.faults → Leads catalogue before xs mid → Leads catalogue before xs after
+leads_on catalogue before mid after [] same more l = (same ∙ l.0, omega (arith, l.1, more))
+leads_on catalogue before mid after (x ∷ xs) same more (one, other, l, answered, e, few) =
+    (one, other, l, answered, same ∙ e, omega (arith, few, more))
 
 -- a request at the front of the input, with its answer
 abbrev exchange : List ℕ → Head → ℕ → ℕ → List ℕ → Exchange
@@ -106,65 +101,61 @@ passed left0 left1 front input to c =
     (ap (λ (t : List ℕ). front ++ t) (sym (take-append-drop to input)) ∙ sym (append_assoc front (take to input) (drop to input)))
 
 -- what was had, where as much is still to come
-had_still : (catalogue : Catalogue) (r t : Type 0) (before mid : List Entry) (left0 left1 left2 : Option (List ℕ)) (xs : List Exchange) (input : List ℕ)
-    → Had catalogue r before mid left0 left1 xs input → (r → t) → left2 ≡ left1 → Had catalogue t before mid left0 left2 xs input
-had_still catalogue r t before mid left0 left1 left2 xs input had f same = record {
+had_still : (catalogue : Catalogue) (before mid : Moment) (left0 left1 left2 : Option (List ℕ)) (xs : List Exchange) (input : List ℕ)
+    → Had catalogue before mid left0 left1 xs input → left2 ≡ left1 → Had catalogue before mid left0 left2 xs input
+had_still catalogue before mid left0 left1 left2 xs input had same = record {
   each = had.each;
   came = had.came ∙ ap (after_front (bytes_of xs ++ input)) (sym same);
-  leads = leads_later catalogue r t before xs mid f had.leads;
+  leads = had.leads;
 }
 
-had_moved : (catalogue : Catalogue) (r : Type 0) (before mid : List Entry) (left0 left1 left2 : Option (List ℕ))
+had_moved : (catalogue : Catalogue) (before mid : Moment) (left0 left1 left2 : Option (List ℕ))
     (xs : List Exchange) (input0 input1 : List ℕ)
-    → Had catalogue r before mid left0 left1 xs input0
-    → after_front input0 left1 ≡ after_front input1 left2 → Had catalogue r before mid left0 left2 xs input1
-had_moved catalogue r before mid left0 left1 left2 xs input0 input1 had took = record {
+    → Had catalogue before mid left0 left1 xs input0
+    → after_front input0 left1 ≡ after_front input1 left2 → Had catalogue before mid left0 left2 xs input1
+had_moved catalogue before mid left0 left1 left2 xs input0 input1 had took = record {
   each = had.each;
   came = moved left0 left1 left2 (bytes_of xs) input0 input1 had.came took;
   leads = had.leads;
 }
 
 -- what was had, and the next request with its answer
-had_more : (catalogue : Catalogue) (r s t : Type 0) (before mid after : List Entry) (left0 left1 left2 : Option (List ℕ))
+had_more : (catalogue : Catalogue) (before mid after : Moment) (left0 left1 left2 : Option (List ℕ))
     (xs : List Exchange) (input : List ℕ) (head : Head) (from to : ℕ) (text : List ℕ)
-    → Had catalogue r before mid left0 left1 xs input → HasRequest input head from to → (r → t) → (s → t)
-    → Replies mid s (http_reply catalogue mid head (take (to - from) (drop from input))) text after → left2 ≡ left1
-    → Had catalogue t before after left0 left2 (exchange input head from to text ∷ xs) (drop to input)
-had_more catalogue r s t before mid after left0 left1 left2 xs input head from to text had has f g replies same = record {
+    → Had catalogue before mid left0 left1 xs input → HasRequest input head from to
+    → IsAnswered catalogue (exchange input head from to text) mid after → left2 ≡ left1
+    → Had catalogue before after left0 left2 (exchange input head from to text ∷ xs) (drop to input)
+had_more catalogue before mid after left0 left1 left2 xs input head from to text had has answered same = record {
   each = (is_request input head from to text has, had.each);
   came = passed left0 left2 (bytes_of xs) input to (had.came ∙ ap (after_front (bytes_of xs ++ input)) (sym same));
-  leads = (
-    mid,
-    leads_later catalogue r t before xs mid f had.leads,
-    replies_later s t mid (http_reply catalogue mid head (take (to - from) (drop from input))) text after g replies,
-  );
+  leads = (mid, after, had.leads, answered, refl, omega arith);
 }
 
 -- a connection that refused a call, by its refusal
-pub serves_broken : (catalogue : Catalogue) (t : Type 0) (before after : List Entry) (left0 left1 written0 written1 : Option (List ℕ))
+pub serves_broken : (catalogue : Catalogue) (before after : Moment) (left0 left1 written0 written1 : Option (List ℕ))
     (n : ℕ) (end : End) (error : ConnError)
-    → end ≡ end_by error → ((end : End) → Broken catalogue t before after left0 left1 written0 written1 record { requests = n; end = end })
-    → Serves catalogue t before after left0 left1 written0 written1 record { requests = n; end = end }
-serves_broken catalogue t before after left0 left1 written0 written1 n end error is broken =
-    subst (λ (x : End). Serves catalogue t before after left0 left1 written0 written1 record { requests = n; end = x }) (sym is) (by_error error)
+    → end ≡ end_by error → ((end : End) → Broken catalogue before after left0 left1 written0 written1 record { requests = n; end = end })
+    → Serves catalogue before after left0 left1 written0 written1 record { requests = n; end = end }
+serves_broken catalogue before after left0 left1 written0 written1 n end error is broken =
+    subst (λ (x : End). Serves catalogue before after left0 left1 written0 written1 record { requests = n; end = x }) (sym is) (by_error error)
   where
-    by_error : (error : ConnError) → Serves catalogue t before after left0 left1 written0 written1 record { requests = n; end = end_by error }
+    by_error : (error : ConnError) → Serves catalogue before after left0 left1 written0 written1 record { requests = n; end = end_by error }
     by_error conns.Failed = broken ends.PeerFault
     by_error conns.NoMemory = broken ends.NoMemory
 
 -- ---- the loop's steps
 
-module _ (catalogue : Catalogue) (r : Type 0) (before mid : List Entry) (left0 left1 written0 written1 : Option (List ℕ))
+module _ (catalogue : Catalogue) (before mid : Moment) (left0 left1 written0 written1 : Option (List ℕ))
     (n : ℕ) (input out : List ℕ)
-    (p : Progress catalogue r before mid left0 left1 written0 written1 n input out) where
+    (p : Progress catalogue before mid left0 left1 written0 written1 n input out) where
   -- more bytes came, and what was collected was sent
   pub read_more : (left2 written2 : Option (List ℕ)) (input2 out2 : List ℕ)
       → after_front input left1 ≡ after_front input2 left2 → written2 ≡ appended written1 out → out2 ≡ []
-      → Progress catalogue r before mid left0 left2 written0 written2 n input2 out2
+      → Progress catalogue before mid left0 left2 written0 written2 n input2 out2
   read_more left2 written2 input2 out2 took e none = record {
     xs = p.xs;
     goes = p.goes;
-    had = had_moved catalogue r before mid left0 left1 left2 p.xs input input2 p.had took;
+    had = had_moved catalogue before mid left0 left1 left2 p.xs input input2 p.had took;
     sent = sent_flushed written0 written1 written2 (texts_of p.xs) out out2 p.sent e none;
     count = p.count;
   }
@@ -172,7 +163,7 @@ module _ (catalogue : Catalogue) (r : Type 0) (before mid : List Entry) (left0 l
   -- it broke before the next request, and of what was collected a front was sent
   pub broke : (left2 written2 : Option (List ℕ)) (input2 : List ℕ)
       → after_front input left1 ≡ after_front input2 left2 → AppendsFront written1 out written2
-      → (end : End) → Broken catalogue r before mid left0 left2 written0 written2 record { requests = n; end = end }
+      → (end : End) → Broken catalogue before mid left0 left2 written0 written2 record { requests = n; end = end }
   broke left2 written2 input2 took front end =
       let s : (front : ℕ) × (written2 ≡ appended written0 (take front (texts_of p.xs ++ []))) =
       sent_front written0 written1 written2 (texts_of p.xs) out [] p.sent (front_before written1 written2 out [] front) in
@@ -181,7 +172,7 @@ module _ (catalogue : Catalogue) (r : Type 0) (before mid : List Entry) (left0 l
         rest = input2;
         tail = [];
         front = s.0;
-        had = had_moved catalogue r before mid left0 left1 left2 p.xs input input2 p.had took;
+        had = had_moved catalogue before mid left0 left1 left2 p.xs input input2 p.had took;
         follows = inl refl;
         sent = s.1;
         least = omega (arith, p.count);
@@ -191,39 +182,47 @@ module _ (catalogue : Catalogue) (r : Type 0) (before mid : List Entry) (left0 l
   -- it ended by its own: all that was collected was sent, and a text behind it
   pub ended : (left2 written2 : Option (List ℕ)) (tail : List ℕ) (end : End)
       → left2 ≡ left1 → written2 ≡ appended written1 (out ++ tail) → ((xs : List Exchange) → GoesOn xs → EndsBy end xs input left2 tail)
-      → Ended catalogue r before mid left0 left2 written0 written2 record { requests = n; end = end }
+      → Ended catalogue before mid left0 left2 written0 written2 record { requests = n; end = end }
   ended left2 written2 tail end same e why = record {
     xs = p.xs;
     rest = input;
     tail = tail;
-    had = had_still catalogue r r before mid left0 left1 left2 p.xs input p.had (λ x. x) same;
+    had = had_still catalogue before mid left0 left1 left2 p.xs input p.had same;
     sent = sent_whole written0 written1 written2 (texts_of p.xs) out tail p.sent e;
     count = p.count;
     ends = why p.xs p.goes;
   }
 
+  -- the body is that of the request at the front of the input
+  answered_so : (after : Moment) (head : Head) (from to : ℕ) (body text : List ℕ) → body ≡ take (to - from) (drop from input)
+      → Replies mid.entries (Rose mid.faults after.faults) (http_reply catalogue mid.entries head body) text after.entries
+      → IsAnswered catalogue (exchange input head from to text) mid after
+  answered_so after head from to body text same replies =
+      subst (λ (b : List ℕ). Replies mid.entries (Rose mid.faults after.faults) (http_reply catalogue mid.entries head b) text after.entries) same replies
+
   -- a request was answered
-  pub answered : (s t : Type 0) (after : List Entry) (left2 written2 : Option (List ℕ)) (m : ℕ) (head : Head) (from to : ℕ) (body out2 : List ℕ)
-      → HasRequest input head from to → (r → t) → (s → t) → body ≡ take (to - from) (drop from input)
-      → Sends s mid (http_reply catalogue mid head body) after written1 out written2 out2 → left2 ≡ left1 → m ≡ min (n + 1) (2 ^ 64 - 1)
-      → Answered catalogue t before after left0 left2 written0 written2 m head (drop to input) out2
-  answered s t after left2 written2 m head from to body out2 has f g same (text, replies, given) still c = record {
+  pub answered : (after : Moment) (left2 written2 : Option (List ℕ)) (m : ℕ) (head : Head) (from to : ℕ) (body out2 : List ℕ)
+      → HasRequest input head from to → body ≡ take (to - from) (drop from input)
+      → Sends (Rose mid.faults after.faults) mid.entries (http_reply catalogue mid.entries head body) after.entries written1 out written2 out2
+      → left2 ≡ left1 → m ≡ min (n + 1) (2 ^ 64 - 1)
+      → Answered catalogue before after left0 left2 written0 written2 m head (drop to input) out2
+  answered after left2 written2 m head from to body out2 has same (text, replies, given) still c = record {
     x = exchange input head from to text;
     xs = p.xs;
     goes = p.goes;
     is = refl;
-    had = had_more catalogue r s t before mid after left0 left1 left2 p.xs input head from to text p.had has f g
-        (subst (λ (b : List ℕ). Replies mid s (http_reply catalogue mid head b) text after) same replies) still;
+    had = had_more catalogue before mid after left0 left1 left2 p.xs input head from to text p.had has (answered_so after head from to body text same replies) still;
     sent = sent_give written0 written1 written2 (texts_of p.xs) out text out2 p.sent given;
     count = omega (arith, c, p.count);
   }
 
   -- it broke at an answer
-  pub broke_answer : (s t : Type 0) (after : List Entry) (left2 written2 : Option (List ℕ)) (m : ℕ) (head : Head) (from to : ℕ) (body : List ℕ)
-      → HasRequest input head from to → (r → t) → (s → t) → body ≡ take (to - from) (drop from input)
-      → SendsFront s mid (http_reply catalogue mid head body) after written1 out written2 → left2 ≡ left1 → m ≡ min (n + 1) (2 ^ 64 - 1)
-      → (end : End) → Broken catalogue t before after left0 left2 written0 written2 record { requests = m; end = end }
-  broke_answer s t after left2 written2 m head from to body has f g same (inl (text, replies, front)) still c end =
+  pub broke_answer : (after : Moment) (left2 written2 : Option (List ℕ)) (m : ℕ) (head : Head) (from to : ℕ) (body : List ℕ)
+      → HasRequest input head from to → body ≡ take (to - from) (drop from input)
+      → SendsFront (Rose mid.faults after.faults) mid.entries (http_reply catalogue mid.entries head body) after.entries written1 out written2
+      → mid.faults ≤ after.faults → left2 ≡ left1 → m ≡ min (n + 1) (2 ^ 64 - 1)
+      → (end : End) → Broken catalogue before after left0 left2 written0 written2 record { requests = m; end = end }
+  broke_answer after left2 written2 m head from to body has same (inl (text, replies, front)) more still c end =
       let q : (front : ℕ) × (written2 ≡ appended written0 (take front (texts_of p.xs ++ text))) =
       sent_front written0 written1 written2 (texts_of p.xs) out text p.sent front in
       record {
@@ -231,24 +230,23 @@ module _ (catalogue : Catalogue) (r : Type 0) (before mid : List Entry) (left0 l
         rest = drop to input;
         tail = [];
         front = q.0;
-        had = had_more catalogue r s t before mid after left0 left1 left2 p.xs input head from to text p.had has f g
-            (subst (λ (b : List ℕ). Replies mid s (http_reply catalogue mid head b) text after) same replies) still;
+        had = had_more catalogue before mid after left0 left1 left2 p.xs input head from to text p.had has (answered_so after head from to body text same replies) still;
         follows = inl refl;
         sent = q.1 ∙ ap (λ (x : List ℕ). appended written0 (take q.0 x)) (sym (append-nil (texts_of p.xs ++ text)));
         least = omega (arith, c, p.count);
         most = omega (arith, c, p.count);
       }
-  broke_answer s t after left2 written2 m head from to body has f g same (inr (stays, w)) still c end =
+  broke_answer after left2 written2 m head from to body has same (inr (stays, w)) more still c end =
       let q : (front : ℕ) × (written2 ≡ appended written0 (take front (texts_of p.xs ++ []))) =
       sent_front written0 written1 written2 (texts_of p.xs) out [] p.sent
       (subst (λ (v : Option (List ℕ)). AppendsFront written1 (out ++ []) v) (sym w) (front_none written1 (out ++ []))) in
+      let had : Had catalogue before mid left0 left2 p.xs input = had_still catalogue before mid left0 left1 left2 p.xs input p.had still in
       record {
         xs = p.xs;
         rest = input;
         tail = [];
         front = q.0;
-        had = subst (λ (e : List Entry). Had catalogue t before e left0 left2 p.xs input) (sym stays)
-            (had_still catalogue r t before mid left0 left1 left2 p.xs input p.had f still);
+        had = record { each = had.each; came = had.came; leads = leads_on catalogue before mid after p.xs stays more had.leads };
         follows = inl refl;
         sent = q.1;
         least = omega (arith, c, p.count);
@@ -258,7 +256,7 @@ module _ (catalogue : Catalogue) (r : Type 0) (before mid : List Entry) (left0 l
   -- it broke at the answer to a head that is refused
   broke_bad : (left2 written2 : Option (List ℕ)) (code : ℕ)
       → ReadsHead (looked_at input) (Bad code) → left2 ≡ left1 → AppendsFront written1 (out ++ refused_text (refusal_for code)) written2
-      → (end : End) → Broken catalogue r before mid left0 left2 written0 written2 record { requests = n; end = end }
+      → (end : End) → Broken catalogue before mid left0 left2 written0 written2 record { requests = n; end = end }
   broke_bad left2 written2 code bad same front end =
       let q : (front : ℕ) × (written2 ≡ appended written0 (take front (texts_of p.xs ++ refused_text (refusal_for code)))) =
       sent_front written0 written1 written2 (texts_of p.xs) out (refused_text (refusal_for code)) p.sent front in
@@ -267,7 +265,7 @@ module _ (catalogue : Catalogue) (r : Type 0) (before mid : List Entry) (left0 l
         rest = input;
         tail = refused_text (refusal_for code);
         front = q.0;
-        had = had_still catalogue r r before mid left0 left1 left2 p.xs input p.had (λ x. x) same;
+        had = had_still catalogue before mid left0 left1 left2 p.xs input p.had same;
         follows = inr (code, bad, refl);
         sent = q.1;
         least = omega (arith, p.count);
@@ -278,18 +276,18 @@ module _ (catalogue : Catalogue) (r : Type 0) (before mid : List Entry) (left0 l
   pub ends_here : (left2 written2 : Option (List ℕ)) (input2 : List ℕ) (end : End)
       → IsPart input → after_front input left1 ≡ after_front input2 left2 → (input2 ≡ input) × IsAtEnd left2
       → written2 ≡ appended written1 out → end ≡ end_of input2
-      → Serves catalogue r before mid left0 left2 written0 written2 record { requests = n; end = end }
+      → Serves catalogue before mid left0 left2 written0 written2 record { requests = n; end = end }
   ends_here left2 written2 input2 end part took (same, none) e is =
-      subst (λ (x : End). Serves catalogue r before mid left0 left2 written0 written2 record { requests = n; end = x }) (sym (is ∙ ap end_of same))
+      subst (λ (x : End). Serves catalogue before mid left0 left2 written0 written2 record { requests = n; end = x }) (sym (is ∙ ap end_of same))
       (by_input input refl)
     where
-      had : (i : List ℕ) → i ≡ input → Had catalogue r before mid left0 left2 p.xs i
-      had i k = had_moved catalogue r before mid left0 left1 left2 p.xs input i p.had (took ∙ ap (λ (t : List ℕ). after_front t left2) (same ∙ sym k))
+      had : (i : List ℕ) → i ≡ input → Had catalogue before mid left0 left2 p.xs i
+      had i k = had_moved catalogue before mid left0 left1 left2 p.xs input i p.had (took ∙ ap (λ (t : List ℕ). after_front t left2) (same ∙ sym k))
 
       sent : written2 ≡ appended written0 (texts_of p.xs ++ [])
       sent = sent_whole written0 written1 written2 (texts_of p.xs) out [] p.sent (e ∙ ap (appended written1) (sym (append-nil out)))
 
-      by_input : (i : List ℕ) → i ≡ input → Serves catalogue r before mid left0 left2 written0 written2 record { requests = n; end = end_of i }
+      by_input : (i : List ℕ) → i ≡ input → Serves catalogue before mid left0 left2 written0 written2 record { requests = n; end = end_of i }
       by_input [] k = record {
         xs = p.xs;
         rest = [];
@@ -312,34 +310,34 @@ module _ (catalogue : Catalogue) (r : Type 0) (before mid : List Entry) (left0 l
   -- a head was refused, and answered so
   pub ends_bad : (left2 written2 : Option (List ℕ)) (code : ℕ) (end : End)
       → ReadsHead (looked_at input) (Bad code) → left2 ≡ left1 → Finishes ends.Bad written1 (out ++ refused_text (refusal_for code)) written2 end
-      → Serves catalogue r before mid left0 left2 written0 written2 record { requests = n; end = end }
+      → Serves catalogue before mid left0 left2 written0 written2 record { requests = n; end = end }
   ends_bad left2 written2 code end bad same (inl (is, e)) =
-      subst (λ (x : End). Serves catalogue r before mid left0 left2 written0 written2 record { requests = n; end = x }) (sym is)
+      subst (λ (x : End). Serves catalogue before mid left0 left2 written0 written2 record { requests = n; end = x }) (sym is)
       (ended left2 written2 (refused_text (refusal_for code)) ends.Bad same e (λ xs goes. (goes, (code, bad, refl))))
   ends_bad left2 written2 code end bad same (inr (error, is, front)) =
-      serves_broken catalogue r before mid left0 left2 written0 written2 n end error is (broke_bad left2 written2 code bad same front)
+      serves_broken catalogue before mid left0 left2 written0 written2 n end error is (broke_bad left2 written2 code bad same front)
 
   -- a head was too long
   pub ends_long : (left2 written2 : Option (List ℕ)) (end : End)
       → (16384 ≤ length input) × ReadsHead (looked_at input) Part → left2 ≡ left1 → Finishes ends.TooLong written1 out written2 end
-      → Serves catalogue r before mid left0 left2 written0 written2 record { requests = n; end = end }
+      → Serves catalogue before mid left0 left2 written0 written2 record { requests = n; end = end }
   ends_long left2 written2 end (long, part) same (inl (is, e)) =
-      subst (λ (x : End). Serves catalogue r before mid left0 left2 written0 written2 record { requests = n; end = x }) (sym is)
+      subst (λ (x : End). Serves catalogue before mid left0 left2 written0 written2 record { requests = n; end = x }) (sym is)
       (ended left2 written2 [] ends.TooLong same (e ∙ ap (appended written1) (sym (append-nil out))) (λ xs goes. (goes, long, part, refl)))
   ends_long left2 written2 end (long, part) same (inr (error, is, front)) =
-      serves_broken catalogue r before mid left0 left2 written0 written2 n end error is
+      serves_broken catalogue before mid left0 left2 written0 written2 n end error is
       (broke left2 written2 input (ap (after_front input) (sym same)) front)
 
-module _ (catalogue : Catalogue) (t : Type 0) (before after : List Entry) (left0 left1 written0 written1 : Option (List ℕ))
+module _ (catalogue : Catalogue) (before after : Moment) (left0 left1 written0 written1 : Option (List ℕ))
     (m : ℕ) (head : Head) (input out : List ℕ)
-    (a : Answered catalogue t before after left0 left1 written0 written1 m head input out) where
+    (a : Answered catalogue before after left0 left1 written0 written1 m head input out) where
   -- the connection goes on
   pub goes_next : head.last ≡ false → (input2 : List ℕ) → input2 ≡ input
-      → Progress catalogue t before after left0 left1 written0 written1 m input2 out
+      → Progress catalogue before after left0 left1 written0 written1 m input2 out
   goes_next last input2 e = record {
     xs = a.x ∷ a.xs;
     goes = (ap (λ (h : Head). h.last) a.is ∙ last, a.goes);
-    had = subst (λ (i : List ℕ). Had catalogue t before after left0 left1 (a.x ∷ a.xs) i) (sym e) a.had;
+    had = subst (λ (i : List ℕ). Had catalogue before after left0 left1 (a.x ∷ a.xs) i) (sym e) a.had;
     sent = a.sent;
     count = a.count;
   }
@@ -347,22 +345,22 @@ module _ (catalogue : Catalogue) (t : Type 0) (before after : List Entry) (left0
   -- it was the last request
   pub ends_asked : (left2 written2 : Option (List ℕ)) (end : End)
       → head.last ≡ true → left2 ≡ left1 → Finishes ends.Asked written1 out written2 end
-      → Serves catalogue t before after left0 left2 written0 written2 record { requests = m; end = end }
+      → Serves catalogue before after left0 left2 written0 written2 record { requests = m; end = end }
   ends_asked left2 written2 end last same (inl (is, e)) =
-      subst (λ (x : End). Serves catalogue t before after left0 left2 written0 written2 record { requests = m; end = x }) (sym is)
+      subst (λ (x : End). Serves catalogue before after left0 left2 written0 written2 record { requests = m; end = x }) (sym is)
       record {
         xs = a.x ∷ a.xs;
         rest = input;
         tail = [];
-        had = had_still catalogue t t before after left0 left1 left2 (a.x ∷ a.xs) input a.had (λ x. x) same;
+        had = had_still catalogue before after left0 left1 left2 (a.x ∷ a.xs) input a.had same;
         sent = sent_whole written0 written1 written2 (texts_of (a.x ∷ a.xs)) out [] a.sent (e ∙ ap (appended written1) (sym (append-nil out)));
         count = a.count;
         ends = ((ap (λ (h : Head). h.last) a.is ∙ last, a.goes), refl);
       }
   ends_asked left2 written2 end last same (inr (error, is, front)) =
-      serves_broken catalogue t before after left0 left2 written0 written2 m end error is at_end
+      serves_broken catalogue before after left0 left2 written0 written2 m end error is at_end
     where
-      at_end : (end : End) → Broken catalogue t before after left0 left2 written0 written2 record { requests = m; end = end }
+      at_end : (end : End) → Broken catalogue before after left0 left2 written0 written2 record { requests = m; end = end }
       at_end end =
           let q : (front : ℕ) × (written2 ≡ appended written0 (take front (texts_of (a.x ∷ a.xs) ++ []))) =
           sent_front written0 written1 written2 (texts_of (a.x ∷ a.xs)) out [] a.sent (front_before written1 written2 out [] front) in
@@ -371,17 +369,14 @@ module _ (catalogue : Catalogue) (t : Type 0) (before after : List Entry) (left0
             rest = input;
             tail = [];
             front = q.0;
-            had = had_still catalogue t t before after left0 left1 left2 (a.x ∷ a.xs) input a.had (λ x. x) same;
+            had = had_still catalogue before after left0 left1 left2 (a.x ∷ a.xs) input a.had same;
             follows = inl refl;
             sent = q.1;
             least = omega (arith, a.count);
             most = omega (arith, a.count);
           }
 
--- a count that rose, rose since earlier, and rose until later
-pub rose_later : (a b c : ℕ) → b ≤ c → Rose a b → Rose a c
-rose_later a b c h r = omega (arith, r)
-
+-- a count that rose since earlier
 pub rose_since : (a b c : ℕ) → a ≤ b → Rose b c → Rose a c
 rose_since a b c h r = omega (arith, r)
 

@@ -1,6 +1,7 @@
 -- One connection served: the requests that were read whole, what was sent, and why it ended.
 use Rattle.std.specs.Prelude.{◌≡◌, ◌≢◌, ◌==◌, ℕ, ◌+◌, ◌-◌, ◌^◌, ◌<◌, ◌≤◌, ◌⊎◌, ◌++◌, ◌∷◌, [], List}
 use Rattle.std.specs.Prelude.{Bool, true, false, cond, if◌then◌else◌, min, length, take, drop, Option, IfSome, Ok}
+use Rattle.rl_base.specs.Causes.{Rose}
 use Rattle.rl_base.specs.Connection.{after_front}
 use Rattle.rl_base.specs.Written.{appended}
 use Rattle.rl_base.specs.declared.conn.ConnError.{ConnError}
@@ -48,12 +49,25 @@ abbrev pub texts_of : List Exchange → List ℕ
 texts_of [] = []
 texts_of (x ∷ xs) = texts_of xs ++ x.text
 
--- each is answered at the history that the one before left
-abbrev pub Leads : Catalogue → Type 0 → List Entry → List Exchange → List Entry → Type 0
-Leads catalogue rose before [] after = after ≡ before
-Leads catalogue rose before (x ∷ xs) after =
-    (mid : List Entry) × Leads catalogue rose before xs mid
-    × Replies mid rose (http_reply catalogue mid x.head x.body) x.text after
+-- A history, and how many faults its keeper has counted.
+pub record Moment : Type 0 where
+  pub entries : List Entry
+  pub faults : ℕ
+
+abbrev pub moment : List Entry → ℕ → Moment
+moment entries faults = record { entries = entries; faults = faults }
+
+-- one request is answered at a moment, and leaves another: a fault is answered only where it was counted at this very request
+abbrev pub IsAnswered : Catalogue → Exchange → Moment → Moment → Type 0
+IsAnswered catalogue x one other =
+    Replies one.entries (Rose one.faults other.faults) (http_reply catalogue one.entries x.head x.body) x.text other.entries
+
+-- each is answered at the moment that the one before left; after the last of them faults may be counted still
+abbrev pub Leads : Catalogue → Moment → List Exchange → Moment → Type 0
+Leads catalogue before [] after = (after.entries ≡ before.entries) × (before.faults ≤ after.faults)
+Leads catalogue before (x ∷ xs) after =
+    (one : Moment) × (other : Moment) × Leads catalogue before xs one × IsAnswered catalogue x one other
+    × (after.entries ≡ other.entries) × (other.faults ≤ after.faults)
 
 abbrev pub AreRequests : List Exchange → Type 0
 AreRequests [] = Unit {0}
@@ -100,14 +114,14 @@ EndsBy ends.TooLong xs rest left tail = GoesOn xs × (16384 ≤ length rest) × 
 EndsBy ends.PeerFault xs rest left tail = ⊥
 EndsBy ends.NoMemory xs rest left tail = ⊥
 
--- What a connection had: these requests came whole, each is answered at the history that the one before left, and then
+-- What a connection had: these requests came whole, each is answered at the moment that the one before left, and then
 -- some bytes more came. Where the connection tells its bytes, these are they.
 pub record Had
-    (catalogue : Catalogue) (rose : Type 0) (before after : List Entry) (left0 left1 : Option (List ℕ))
+    (catalogue : Catalogue) (before after : Moment) (left0 left1 : Option (List ℕ))
     (xs : List Exchange) (rest : List ℕ) : Type 0 where
   pub each : AreRequests xs
   pub came : left0 ≡ after_front (bytes_of xs ++ rest) left1
-  pub leads : Leads catalogue rose before xs after
+  pub leads : Leads catalogue before xs after
 
 -- the count of so many requests, which stands still at its type's end
 abbrev pub counted : ℕ → ℕ
@@ -115,12 +129,12 @@ counted n = min n (2 ^ 64 - 1)
 
 -- it ended by its own, and all was sent
 pub record Ended
-    (catalogue : Catalogue) (rose : Type 0) (before after : List Entry)
+    (catalogue : Catalogue) (before after : Moment)
     (left0 left1 written0 written1 : Option (List ℕ)) (served : Served) : Type 0 where
   pub xs : List Exchange
   pub rest : List ℕ
   pub tail : List ℕ
-  pub had : Had catalogue rose before after left0 left1 xs rest
+  pub had : Had catalogue before after left0 left1 xs rest
   pub sent : written1 ≡ appended written0 (texts_of xs ++ tail)
   pub count : served.requests ≡ counted (length xs)
   pub ends : EndsBy served.end xs rest left1 tail
@@ -132,13 +146,13 @@ MayFollow rest tail =
 
 -- it ended by a fault or for want of memory, and a front was sent; one more request may have been read whole
 pub record Broken
-    (catalogue : Catalogue) (rose : Type 0) (before after : List Entry)
+    (catalogue : Catalogue) (before after : Moment)
     (left0 left1 written0 written1 : Option (List ℕ)) (served : Served) : Type 0 where
   pub xs : List Exchange
   pub rest : List ℕ
   pub tail : List ℕ
   pub front : ℕ
-  pub had : Had catalogue rose before after left0 left1 xs rest
+  pub had : Had catalogue before after left0 left1 xs rest
   pub follows : MayFollow rest tail
   pub sent : written1 ≡ appended written0 (take front (texts_of xs ++ tail))
   pub least : counted (length xs) ≤ served.requests
@@ -149,12 +163,12 @@ is_broken ends.PeerFault = true
 is_broken ends.NoMemory = true
 is_broken other = false
 
-abbrev pub Serves : Catalogue → Type 0 → List Entry → List Entry
+abbrev pub Serves : Catalogue → Moment → Moment
     → Option (List ℕ) → Option (List ℕ) → Option (List ℕ) → Option (List ℕ) → Served → Type 0
-Serves catalogue rose before after left0 left1 written0 written1 served =
+Serves catalogue before after left0 left1 written0 written1 served =
     cond (is_broken served.end)
-    (Broken catalogue rose before after left0 left1 written0 written1 served)
-    (Ended catalogue rose before after left0 left1 written0 written1 served)
+    (Broken catalogue before after left0 left1 written0 written1 served)
+    (Ended catalogue before after left0 left1 written0 written1 served)
 
 -- ---- steps
 

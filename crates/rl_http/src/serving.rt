@@ -8,7 +8,7 @@ ghost use Rattle.rl_http.specs.Answers.{refused_text};
 ghost use Rattle.rl_http.specs.Heads.{viewer_named};
 ghost use Rattle.rl_http.specs.Replies.{http_reply};
 ghost use Rattle.rl_http.specs.Sent.{AppendsFront};
-ghost use Rattle.rl_http.specs.Serving.{end_by, end_of, refusal_for, Finishes, IsAtEnd, Sends, SendsFront, Serves};
+ghost use Rattle.rl_http.specs.Serving.{end_by, end_of, refusal_for, Finishes, IsAtEnd, Sends, SendsFront, Serves, moment};
 
 use crate::answers::refused;
 use crate::hand::{Hand, in_hand};
@@ -175,7 +175,7 @@ fn serve_by<R: Wait, K: Keeper, C: Conn>(
     chunk: &mut [u8],
 ) -> Served
     requires { 0 < length chunk.old }
-    ensures serves { Serves desk.old.catalogue (Rose (K.faults desk.old.keeper) (K.faults desk.new.keeper)) desk.old.entries desk.new.entries
+    ensures serves { Serves desk.old.catalogue (moment desk.old.entries (K.faults desk.old.keeper)) (moment desk.new.entries (K.faults desk.new.keeper))
         (C.left conn.old) (C.left conn.new) (C.written conn.old) (C.written conn.new) result }
     ensures peer_fault { result.end ≡ End.PeerFault → Rose (C.faults conn.old) (C.faults conn.new) }
     ensures never_falls { C.faults conn.old ≤ C.faults conn.new }
@@ -238,9 +238,10 @@ pub fn serve_desk<R: Wait, K: Keeper, C: Conn>(
     desk: &mut Desk<K>,
     conn: &mut C,
 ) -> Served
-    // Each request that came whole is answered at the history that the one before left, and all answers are written, in
-    // order; at a fault of the peer, or for want of memory, a front of them.
-    ensures serves { Serves desk.old.catalogue (Rose (K.faults desk.old.keeper) (K.faults desk.new.keeper)) desk.old.entries desk.new.entries
+    // Each request that came whole is answered at the history that the one before left, by 503 only where the keeper
+    // counted a fault at this very request; and all answers are written, in order, or at a fault of the peer, or for want
+    // of memory, a front of them.
+    ensures serves { Serves desk.old.catalogue (moment desk.old.entries (K.faults desk.old.keeper)) (moment desk.new.entries (K.faults desk.new.keeper))
         (C.left conn.old) (C.left conn.new) (C.written conn.old) (C.written conn.new) result }
     ensures peer_fault { result.end ≡ End.PeerFault → Rose (C.faults conn.old) (C.faults conn.new) }
     ensures never_falls { C.faults conn.old ≤ C.faults conn.new }

@@ -5,4 +5,4 @@ use Rattle.rl_http.proofs.SentLemmas.{front_none}
 use Rattle.rl_http.proofs.serving.serve_desk.Goals as goal
 
 pub returns-in_default-clause-serves : goal.returns-in_default-clause-serves
-returns-in_default-clause-serves g c = broke _ _ _ _ _ _ _ _ 0 [] [] (begins _ _ _ _ _ [] [] refl refl) _ _ [] refl (front_none _ _) ends.NoMemory
+returns-in_default-clause-serves g c = broke _ _ _ _ _ _ _ 0 [] [] (begins _ _ _ _ [] [] refl refl) _ _ [] refl (front_none _ _) ends.NoMemory
