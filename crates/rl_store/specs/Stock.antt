@@ -36,9 +36,12 @@ pub record IsStock (as_of : ℕ) (pairs : List Stored) : Type 0 where
   pub age : as_of ≤ 10 ^ 12
   pub few : length pairs < 2 ^ 32
 
--- what is kept under a key: the name alone does not find it
+-- what is kept under a key text: the name alone does not find it
+abbrev pub pair_under : Text → List Stored → Option Stored
+pair_under text pairs = find (λ (stored : Stored). bytes_eq (key_bytes stored.key) text) pairs
+
 abbrev pub pair_of : Key → List Stored → Option Stored
-pair_of key pairs = find (λ (stored : Stored). bytes_eq (key_bytes stored.key) (key_bytes key)) pairs
+pair_of key pairs = pair_under (key_bytes key) pairs
 
 -- nothing is kept, and the age is that of no moment
 abbrev pub nothing_for : Text → Stock

@@ -3,14 +3,16 @@ ghost use Rattle.std.specs.Prelude.{◌≡◌, ◌<◌, ◌≤◌, ◌^◌, leng
 ghost use Rattle.std.specs.List.Sorted.{IsStrictlySortedBy};
 ghost use Rattle.std.specs.Ordering.{nat_cmp};
 ghost use Rattle.std.specs.Cmp.Lexicographic.{slice_cmp};
-ghost use Rattle.rl_store.specs.Stock.{keys_of, pair_of, nothing_for, is_fresh, note_of, fitted, stock_text};
+ghost use Rattle.rl_book_spec.specs.declared.Stored.{Stored};
+ghost use Rattle.rl_names.specs.Name.{key_text};
+ghost use Rattle.rl_store.specs.Stock.{keys_of, pair_of, pair_under, nothing_for, is_fresh, note_of, fitted, stock_text};
 
 use crate::copying::copy_pairs;
 use crate::keys::compare;
 use crate::note::Note;
 use crate::writing::write;
 use rl_book_spec::Stored;
-use rl_names::{Key, NoMemory, Text};
+use rl_names::{Key, NoMemory, Text, Version};
 use std::alloc::Global;
 use std::marker::Model;
 use std::str;
@@ -59,14 +61,14 @@ fn vary_text(alloc: Global, vary: &[u8]) -> Result<Text, NoMemory>
     Text::of(alloc, text)
 }
 
-/// The place of the pair under a key, among pairs in byte order of their key texts.
-fn place_of(pairs: &[Stored], key: &Key) -> Option<usize>
+/// The place of the pair under the key of a name and a version, among pairs in byte order of their key texts.
+fn place_of(pairs: &[Stored], name: &[u8], version: &Version) -> Option<usize>
     requires { IsStrictlySortedBy (slice_cmp nat_cmp) (keys_of pairs.now) }
-    ensures found { option_and_then (slice_get pairs.now) result ≡ pair_of key.now pairs.now }
+    ensures found { option_and_then (slice_get pairs.now) result ≡ pair_under (key_text name.now version.now) pairs.now }
     ensures within { IfSome result (λ at. at < length pairs.now) }
 {
     pairs
-        .binary_search_by(|stored| compare(&stored.key, key))
+        .binary_search_by(|stored| compare(&stored.key, name, version))
         .ok()
 }
 
@@ -75,7 +77,7 @@ fn find<'a>(pairs: &'a [Stored], key: &Key) -> Option<&'a Stored>
     requires { IsStrictlySortedBy (slice_cmp nat_cmp) (keys_of pairs.now) }
     ensures { option_map (λ stored. stored.now) result ≡ pair_of key.now pairs.now }
 {
-    let at = place_of(pairs, key)?;
+    let at = place_of(pairs, key.name.as_bytes(), &key.version)?;
     Some(&pairs[at])
 }
 
@@ -108,6 +110,20 @@ impl Store {
         ensures { option_map (λ stored. stored.now) result ≡ pair_of key.now self.now.pairs }
     {
         find(&self.pairs, key)
+    }
+
+    /// The number of the pair under the key of a name and a version. It is found in so many comparisons as the logarithm of
+    /// their count.
+    pub fn place(&self, name: &[u8], version: &Version) -> Option<u32>
+        ensures found { option_and_then (slice_get self.now.pairs) result ≡ pair_under (key_text name.now version.now) self.now.pairs }
+        ensures within { IfSome result (λ at. at < length self.now.pairs) }
+        ensures named { (stored : Stored) → pair_under (key_text name.now version.now) self.now.pairs ≡ Some stored → stored.key.name ≡ name.now }
+    {
+        let at = place_of(&self.pairs, name, version)?;
+        // Both versions have five bytes, so that equal key texts have equal names.
+        let _asked = version.as_str();
+        let _kept = self.pairs[at].key.version.as_str();
+        Some(at as u32)
     }
 
     /// How many pairs are kept.

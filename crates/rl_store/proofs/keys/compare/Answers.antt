@@ -6,8 +6,8 @@ use Rattle.rl_store.proofs.keys.compare.Goals as goal
 
 pub returns : goal.returns
 returns c = cmp_from_yields_List (λ x y. y ≡ x) _ nat_cmp _ c.cmp.ensures.ran
-    (YieldsList-from_chain (YieldsList-from_slice c.args.a.now.name cc) (YieldsList-from_chain (YieldsList-from_slice (64 ∷ []) cc)
-    (YieldsList-from_slice c.args.a.now.version cc) (cc) (cc)) (cc) (cc))
-    (λ it e. YieldsList-from_chain (YieldsList-from_slice c.args.b.now.name cc) (YieldsList-from_chain (YieldsList-from_slice (64 ∷ []) cc)
-    (YieldsList-from_slice c.args.b.now.version cc) (cc) (cc)) (cc) (cc))
+    (YieldsList-from_chain (YieldsList-from_slice c.args.key.now.name cc) (YieldsList-from_chain (YieldsList-from_slice (64 ∷ []) cc)
+    (YieldsList-from_slice c.args.key.now.version cc) (cc) (cc)) (cc) (cc))
+    (λ it e. YieldsList-from_chain (YieldsList-from_slice c.args.name.now cc) (YieldsList-from_chain (YieldsList-from_slice (64 ∷ []) cc)
+    (YieldsList-from_slice c.args.version.now cc) (cc) (cc)) (cc) (cc))
     (λ x y. refl)

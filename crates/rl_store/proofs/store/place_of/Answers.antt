@@ -1,8 +1,9 @@
-use Rattle.std.proofs.Common.{◌≡◌, nat_cmp, refl, ◌∙◌, rules}
+use Rattle.std.proofs.Common.{◌≡◌, nat_cmp, refl, rules}
 use Rattle.std.specs.Cmp.Lexicographic.{slice_cmp}
 use Rattle.std.proofs.lemmas.Fn.{answers_by}
 use Rattle.rl_book_spec.specs.declared.Stored.{Stored}
 use Rattle.rl_book_spec.specs.Closing.{key_bytes}
+use Rattle.rl_names.specs.Name.{key_text}
 use Rattle.rl_store.proofs.SearchLemmas.{searched}
 use Rattle.rl_store.proofs.store.place_of.Goals as goal
 
@@ -10,7 +11,7 @@ use Rattle.rl_store.proofs.store.place_of.Goals as goal
 pub returns : goal.returns
 returns c =
     let facts = c.binary_search_by.ensures in
-    let by_key = facts.position (λ (x : Stored). slice_cmp nat_cmp (key_bytes x.key) (key_bytes c.args.key.now))
-    (answers_by _ _ (λ f. f.0.now ≡ c.args.key.now) (λ f a r h called same. (search (rules, same), search (rules, same))) _ refl) in
-    let known = searched (λ (x : Stored). key_bytes x.key) (key_bytes c.args.key.now) c.args.pairs.now c.requires _ facts.bound by_key in
+    let by_key = facts.position (λ (x : Stored). slice_cmp nat_cmp (key_bytes x.key) (key_text c.args.name.now c.args.version.now))
+    (answers_by _ _ (λ f. (f.0.now ≡ c.args.name.now) × (f.1.now ≡ c.args.version.now)) (λ f a r h called same. (search (rules, same.0, same.1), search (rules, same.0, same.1))) _ (refl, refl)) in
+    let known = searched (λ (x : Stored). key_bytes x.key) (key_text c.args.name.now c.args.version.now) c.args.pairs.now c.requires _ facts.bound by_key in
     record { found = search rules; within = search rules }
