@@ -22,7 +22,7 @@ use Rattle.rl_book_spec.specs.declared.Origin.{Origin}
 use Rattle.rl_book_spec.specs.declared.Origin.TheVariants as origin
 use Rattle.rl_book.specs.Calls.{IsRun}
 use Rattle.rl_book.specs.Opens.{opening_of}
-use Rattle.rl_book.specs.Requesting.{ArePlaces}
+use Rattle.rl_book.specs.Held.{AreNamed, gifts_of}
 use Rattle.rl_book.specs.declared.answer.Run.{Run}
 use Rattle.rl_book.specs.declared.given.Delivered.{Delivered}
 use Rattle.rl_book.specs.declared.visit.Visit.TheInside.{Inside}
@@ -42,7 +42,7 @@ abbrev pub booked : Inside → Booked
 booked b = record {
   startup = b.startup;
   embedded = b.plan.embedded;
-  opening = opening_of b.plan (rows_said b.startup) b.embedded.items;
+  opening = opening_of b.plan (rows_said b.startup) b.held.embedded b.held.store.pairs;
   past = reverse b.calls.items;
   ran = map (λ run. (run.row, run.threw)) b.runs.items;
 }
@@ -69,7 +69,8 @@ pub record IsKept (b : Inside) : Type 0 where
   pub book : IsBook (booked b)
   pub base : IsBase b.plan.base
   pub seen : HasSeen (view_in (booked b)) (events_in (booked b)) (rows_run (booked b)) b.table
-  pub places : ArePlaces (booked b).opening.registered b.embedded.items b.places.items
+  pub gifts : b.held.gifts ≡ gifts_of (booked b).opening
+  pub named : AreNamed (booked b).opening
   pub parts : KeepsParts (booked b).opening (booked b).past b.delivered.items
   pub requests : b.requests ≡ traffic_in (booked b)
   pub runs : (at : ℕ) (run : Run) → slice_get b.runs.items at ≡ Some run → IsRun (booked b) (run.row, run.threw) run

@@ -2,6 +2,7 @@ pub mod Asking
 pub mod Calls
 pub mod Delivering
 pub mod Errors
+pub mod Held
 pub mod Kept
 pub mod Opens
 pub mod Order

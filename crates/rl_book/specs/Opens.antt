@@ -12,25 +12,26 @@ use Rattle.rl_wire.specs.declared.startup.Startup.{Startup}
 use Rattle.rl_book_spec.specs.Kept.{Booked}
 use Rattle.rl_book_spec.specs.Opening.{Opening}
 use Rattle.rl_book_spec.specs.declared.Plan.{Plan}
+use Rattle.rl_book_spec.specs.declared.Stored.{Stored}
 use Rattle.rl_book.specs.declared.error.OpenError.{OpenError}
 use Rattle.rl_book.specs.declared.error.OpenError.TheVariants as bad
 
--- what a view is opened over: these rows, these parts, and nothing that was stored
-abbrev pub opening_of : Plan → List Row → List Part → Opening
-opening_of plan rows parts = record {
+-- what a view is opened over: these rows, these parts, and what is stored
+abbrev pub opening_of : Plan → List Row → List Part → List Stored → Opening
+opening_of plan rows parts stored = record {
   registered = record { rows = rows; features = plan.features };
   embedded = parts;
   base = plan.base;
   limit = plan.limit;
-  stored = [];
+  stored = stored;
 }
 
 -- nothing was requested of it yet
-abbrev pub opened : Text → Plan → List Row → List Part → Booked
-opened startup plan rows parts = record {
+abbrev pub opened : Text → Plan → List Row → List Part → List Stored → Booked
+opened startup plan rows parts stored = record {
   startup = startup;
   embedded = plan.embedded;
-  opening = opening_of plan rows parts;
+  opening = opening_of plan rows parts stored;
   past = [];
   ran = [];
 }
@@ -44,21 +45,21 @@ pub record Breaks (startup : Text) (plan : Plan) (breach : Breach) : Type 0 wher
   pub broken : breach_of said.rows ≡ Some breach
 
 -- both are read, the rows break no rule, and the view is opened over what they say
-pub record IsOpened (startup : Text) (plan : Plan) (book : Booked) : Type 0 where
+pub record IsOpened (startup : Text) (plan : Plan) (stored : List Stored) (book : Booked) : Type 0 where
   pub said : Startup
   pub parts : List Part
   pub startup_is : startup_of startup ≡ Ok said
   pub parts_are : answer_of plan.embedded ≡ Ok parts
   pub fine : breach_of said.rows ≡ None
-  pub book_is : book ≡ opened startup plan said.rows parts
+  pub book_is : book ≡ opened startup plan said.rows parts stored
 
--- What opening answers: the first bad line of the startup text, then that of the embedded text, then the rule that the rows
+-- What opening over what is stored answers: the first bad line of the startup text, then that of the embedded text, then the rule that the rows
 -- break.
-abbrev pub Opens : Result Booked OpenError → Text → Plan → Type 0
-Opens (Ok book) startup plan = IsOpened startup plan book
-Opens (Err (bad.BadStartup line)) startup plan = TellsLine (startup_of startup) line
-Opens (Err (bad.BadEmbedded line)) startup plan = (said : Startup) × (startup_of startup ≡ Ok said) × TellsLine (answer_of plan.embedded) line
-Opens (Err (bad.TooMany what count)) startup plan = Breaks startup plan (breach.TooMany what count)
-Opens (Err (bad.Duplicate name)) startup plan = Breaks startup plan (breach.Duplicate name)
-Opens (Err (bad.BadIndex row index)) startup plan = Breaks startup plan (breach.BadIndex row index)
-Opens (Err bad.NoMemory) startup plan = Unit {0}
+abbrev pub Opens : Result Booked OpenError → Text → Plan → List Stored → Type 0
+Opens (Ok book) startup plan stored = IsOpened startup plan stored book
+Opens (Err (bad.BadStartup line)) startup plan stored = TellsLine (startup_of startup) line
+Opens (Err (bad.BadEmbedded line)) startup plan stored = (said : Startup) × (startup_of startup ≡ Ok said) × TellsLine (answer_of plan.embedded) line
+Opens (Err (bad.TooMany what count)) startup plan stored = Breaks startup plan (breach.TooMany what count)
+Opens (Err (bad.Duplicate name)) startup plan stored = Breaks startup plan (breach.Duplicate name)
+Opens (Err (bad.BadIndex row index)) startup plan stored = Breaks startup plan (breach.BadIndex row index)
+Opens (Err bad.NoMemory) startup plan stored = Unit {0}

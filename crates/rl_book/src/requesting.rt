@@ -4,15 +4,15 @@ ghost use Rattle.rl_view_spec.specs.Closure.{resolves};
 ghost use Rattle.rl_view_spec.specs.Requests.{accepted_each};
 ghost use Rattle.rl_batch.specs.Given.{IsBase};
 ghost use Rattle.rl_book.specs.Asking.{Asks, Loads, Touched, Untouched};
-ghost use Rattle.rl_book.specs.Requesting.{ArePlaces, left_of};
+ghost use Rattle.rl_book.specs.Requesting.{left_of};
 
+use crate::held::Held;
 use crate::touching::{is_left, touch_rows};
 use rl_batch::{Requests, batches};
 use rl_book_spec::Plan;
 use rl_names::{NoMemory, Text};
 use rl_registry::{Registry, ResolveError};
 use rl_states::Table;
-use rl_wire::Part;
 use std::alloc::Global;
 use std::slice;
 
@@ -20,43 +20,39 @@ use std::slice;
 fn left_of(
     alloc: Global,
     table: &Table,
-    parts: &[Part],
-    places: &[Option<usize>],
+    held: &Held,
     rows: &[u32],
 ) -> Result<Vec<u32>, NoMemory>
     requires within { All (λ row. row < length table.now.registered.rows) rows.now }
-    requires places { ArePlaces table.now.registered parts.now places.now }
-    ensures { IfOk result (λ left. left.items ≡ left_of parts.now table.now rows.now) }
+    ensures { IfOk result (λ left. left.items ≡ left_of held.now.gifts table.now rows.now) }
 {
     let mut left = Vec::new(alloc);
     for row in rows {
-        if is_left(table, parts, places, *row) {
+        if is_left(table, held, *row) {
             left.push(*row)?;
         }
     }
     Ok(left)
 }
 
-/// Touches rows, gives them what came with the page, and asks for those that are left. It wants memory only before
+/// Touches rows, gives them what they are given at once, and asks for those that are left. It wants memory only before
 /// anything changes.
 fn request_rows(
     alloc: Global,
     table: &mut Table,
     requests: &mut Requests,
     plan: &Plan,
-    parts: &[Part],
-    places: &[Option<usize>],
+    held: &Held,
     rows: &[u32],
 ) -> Result<(), NoMemory>
     requires base { IsBase plan.now.base }
     requires within { All (λ row. row < length table.old.registered.rows) rows.now }
     requires once { AllPairs (λ a b. a ≢ b) rows.now }
     requires idle { table.old.executing ≡ None }
-    requires places { ArePlaces table.old.registered parts.now places.now }
-    ensures ok { OnOk result (Touched plan.now parts.now rows.now table.old table.new requests.old requests.new) }
+    ensures ok { OnOk result (Touched plan.now held.now.gifts rows.now table.old table.new requests.old requests.new) }
     ensures err { OnErr result (Untouched table.old table.new requests.old requests.new) }
 {
-    let left = left_of(alloc, table, parts, places, rows)?;
+    let left = left_of(alloc, table, held, rows)?;
     let new = batches(
         alloc,
         table.registry(),
@@ -65,29 +61,27 @@ fn request_rows(
         plan.limit,
     )?;
     requests.add(new)?;
-    touch_rows(table, parts, places, rows);
+    touch_rows(table, held, rows);
     Ok(())
 }
 
-/// Requests names together: touches the rows of their closures, gives these what came with the page, and asks for those
+/// Requests names together: touches the rows of their closures, gives these what they are given at once, and asks for those
 /// that are left. Of a request that is refused, and at want of memory, nothing changes.
 pub(crate) fn request(
     alloc: Global,
     table: &mut Table,
     requests: &mut Requests,
     plan: &Plan,
-    parts: &[Part],
-    places: &[Option<usize>],
+    held: &Held,
     names: &[Text],
 ) -> Result<(), ResolveError>
     requires base { IsBase plan.now.base }
     requires idle { table.old.executing ≡ None }
-    requires places { ArePlaces table.old.registered parts.now places.now }
-    ensures asks { Asks result plan.now parts.now names.now table.old table.new requests.old requests.new }
+    ensures asks { Asks result plan.now held.now.gifts names.now table.old table.new requests.old requests.new }
     ensures err { OnErr result (Untouched table.old table.new requests.old requests.new) }
 {
     let rows = table.registry().resolve_all(names)?;
-    request_rows(alloc, table, requests, plan, parts, places, rows.as_slice())?;
+    request_rows(alloc, table, requests, plan, held, rows.as_slice())?;
     Ok(())
 }
 
@@ -127,14 +121,12 @@ pub(crate) fn load(
     table: &mut Table,
     requests: &mut Requests,
     plan: &Plan,
-    parts: &[Part],
-    places: &[Option<usize>],
+    held: &Held,
     names: &[Text],
 ) -> Result<u32, NoMemory>
     requires base { IsBase plan.now.base }
     requires idle { table.old.executing ≡ None }
-    requires places { ArePlaces table.old.registered parts.now places.now }
-    ensures ok { IfOk result (λ dropped. Loads plan.now parts.now names.now dropped table.old table.new requests.old requests.new) }
+    ensures ok { IfOk result (λ dropped. Loads plan.now held.now.gifts names.now dropped table.old table.new requests.old requests.new) }
     ensures err { OnErr result (Untouched table.old table.new requests.old requests.new) }
 {
     let asked = accepted(alloc, table.registry(), names)?;
@@ -147,8 +139,7 @@ pub(crate) fn load(
         table,
         requests,
         plan,
-        parts,
-        places,
+        held,
         asked.as_slice(),
     ) {
         Ok(()) => Ok(dropped as u32),

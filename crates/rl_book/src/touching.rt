@@ -1,18 +1,18 @@
-//! Rows that are touched, and what came for them with the page.
-ghost use Rattle.std.specs.Prelude.{◌≡◌, ◌<◌, ℕ, List, All, IfOk, IsTrue, None, fold, is_some, length, option_map};
+//! Rows that are touched, and what they are given at once.
+ghost use Rattle.std.specs.Prelude.{◌≡◌, ◌<◌, ℕ, List, All, IsTrue, None, fold, is_some, length};
 ghost use Rattle.rl_view_spec.specs.View.{kind_of};
 ghost use Rattle.rl_view.specs.Seen.{after_answer, counts_at};
 ghost use Rattle.rl_wire.specs.declared.part.Part.TheVariants.{State};
 ghost use Rattle.rl_batch.specs.Given.{is_private_at};
 ghost use Rattle.rl_book_spec.specs.Opening.{answer_of, part_name};
-ghost use Rattle.rl_book.specs.Requesting.{ArePlaces, after_held, after_request, answer_held_at, is_left_at, part_at};
+ghost use Rattle.rl_book.specs.Requesting.{after_held, after_request, answer_held_at, is_left_at};
 
-use rl_names::{Group, NoMemory, StateKind};
+use crate::held::Held;
+use rl_names::{Group, StateKind};
 use rl_registry::Registry;
 use rl_states::{Outcome, Steps, Table};
 use rl_view::{counts, uncounted};
 use rl_wire::Part;
-use std::alloc::Global;
 use std::marker::Brand;
 use std::sync::ledger::{Blank, Ledger};
 
@@ -23,40 +23,6 @@ pub(crate) fn name_of(part: &Part) -> &[u8]
     match part {
         Part::Impl { name, .. } => name.as_bytes(),
         Part::State { name, .. } => name.as_bytes(),
-    }
-}
-
-/// For each row the place of the first of these parts that has its name.
-pub(crate) fn places_of(
-    alloc: Global,
-    registry: &Registry,
-    parts: &[Part],
-) -> Result<Vec<Option<usize>>, NoMemory>
-    ensures { IfOk result (λ places. ArePlaces registry.now parts.now places.items) }
-{
-    let mut places = vec![in alloc; None; registry.count() as usize]?;
-    let mut at = parts.len();
-    'parts: while at > 0 {
-        at -= 1;
-        if let Some(row) = registry.find(name_of(&parts[at])) {
-            places[row as usize] = Some(at);
-        }
-    }
-    Ok(places)
-}
-
-/// The part at the place of a row.
-pub(crate) fn first_of<'a>(
-    parts: &'a [Part],
-    places: &[Option<usize>],
-    row: u32,
-) -> Option<&'a Part>
-    ensures { option_map (λ part. part.now) result ≡ part_at parts.now places.now row }
-{
-    match places.get(row as usize) {
-        Some(Some(place)) => parts.get(*place),
-        Some(None) => None,
-        None => None,
     }
 }
 
@@ -94,23 +60,21 @@ fn is_private(registry: &Registry, row: u32) -> bool
     matches!(registry.row_at(row).group, Group::Private)
 }
 
-/// Gives a row what came for it with the page, or an error where it is private, if that counts.
+/// Gives a row what it is given at once, or an error where it is private, if that counts.
 fn give_row<L: Ledger>(
     table: &mut Table,
-    parts: &[Part],
-    places: &[Option<usize>],
+    held: &Held,
     row: u32,
     steps: &mut Steps<L>,
 )
     requires within { row < length table.old.registered.rows }
     requires idle { table.old.executing ≡ None }
-    requires places { ArePlaces table.old.registered parts.now places.now }
-    ensures { table.new ≡ after_held parts.now table.old row }
+    ensures { table.new ≡ after_held held.now.gifts table.old row }
 {
     if !counts(table, row) {
         return;
     }
-    match first_of(parts, places, row) {
+    match held.part(row) {
         Some(part) => give_part(table, row, part, steps),
         None => {
             if is_private(table.registry(), row) {
@@ -120,11 +84,10 @@ fn give_row<L: Ledger>(
     }
 }
 
-/// Gives each of these rows what came for it with the page, or an error where it is private, if that counts.
+/// Gives each of these rows what it is given at once, or an error where it is private, if that counts.
 fn give_rows<L: Ledger>(
     table: &mut Table,
-    parts: &[Part],
-    places: &[Option<usize>],
+    held: &Held,
     rows: &[u32],
     blank: Blank,
 )
@@ -133,43 +96,39 @@ fn give_rows<L: Ledger>(
     requires some { 0 < L.parts }
     requires within { All (λ row. row < length table.old.registered.rows) rows.now }
     requires idle { table.old.executing ≡ None }
-    requires places { ArePlaces table.old.registered parts.now places.now }
-    ensures { table.new ≡ fold (after_held parts.now) table.old rows.now }
+    ensures { table.new ≡ fold (after_held held.now.gifts) table.old rows.now }
 {
     let mut steps = Steps::<L>::open(blank);
     for row in rows {
-        give_row(table, parts, places, *row, &mut steps);
+        give_row(table, held, *row, &mut steps);
     }
 }
 
-/// Touches rows, and gives each what came for it with the page, or an error where it is private, if that counts.
-pub(crate) fn touch_rows(table: &mut Table, parts: &[Part], places: &[Option<usize>], rows: &[u32])
+/// Touches rows, and gives each what it is given at once, or an error where it is private, if that counts.
+pub(crate) fn touch_rows(table: &mut Table, held: &Held, rows: &[u32])
     requires within { All (λ row. row < length table.old.registered.rows) rows.now }
     requires idle { table.old.executing ≡ None }
-    requires places { ArePlaces table.old.registered parts.now places.now }
-    ensures { table.new ≡ after_request parts.now rows.now table.old }
+    ensures { table.new ≡ after_request held.now.gifts rows.now table.old }
 {
     uncounted::touch::<Brand>(table, rows, Blank::new(1));
-    give_rows::<Brand>(table, parts, places, rows, Blank::new(1));
+    give_rows::<Brand>(table, held, rows, Blank::new(1));
 }
 
 /// Whether a row is answered as soon as it is touched.
-fn is_answered(registry: &Registry, parts: &[Part], places: &[Option<usize>], row: u32) -> bool
+fn is_answered(registry: &Registry, held: &Held, row: u32) -> bool
     requires within { row < length registry.now.rows }
-    requires places { ArePlaces registry.now parts.now places.now }
-    ensures { result ≡ is_some (answer_held_at parts.now registry.now row) }
+    ensures { result ≡ is_some (answer_held_at held.now.gifts registry.now row) }
 {
-    match first_of(parts, places, row) {
+    match held.part(row) {
         Some(_) => true,
         None => is_private(registry, row),
     }
 }
 
 /// Whether a row is to be asked for: it was not touched before, is not skipped, and is not answered at once.
-pub(crate) fn is_left(table: &Table, parts: &[Part], places: &[Option<usize>], row: u32) -> bool
+pub(crate) fn is_left(table: &Table, held: &Held, row: u32) -> bool
     requires within { row < length table.now.registered.rows }
-    requires places { ArePlaces table.now.registered parts.now places.now }
-    ensures { result ≡ is_left_at parts.now table.now row }
+    ensures { result ≡ is_left_at held.now.gifts table.now row }
 {
     if table.touched(row) {
         return false;
@@ -177,5 +136,5 @@ pub(crate) fn is_left(table: &Table, parts: &[Part], places: &[Option<usize>], r
     if table.registry().skipped(row) {
         return false;
     }
-    !is_answered(table.registry(), parts, places, row)
+    !is_answered(table.registry(), held, row)
 }

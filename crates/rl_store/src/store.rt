@@ -3,6 +3,7 @@ ghost use Rattle.std.specs.Prelude.{◌≡◌, ◌<◌, ◌≤◌, ◌^◌, leng
 ghost use Rattle.std.specs.List.Sorted.{IsStrictlySortedBy};
 ghost use Rattle.std.specs.Ordering.{nat_cmp};
 ghost use Rattle.std.specs.Cmp.Lexicographic.{slice_cmp};
+ghost use Rattle.rl_book_spec.specs.Opening.{part_name};
 ghost use Rattle.rl_book_spec.specs.declared.Stored.{Stored};
 ghost use Rattle.rl_names.specs.Name.{key_text};
 ghost use Rattle.rl_store.specs.Stock.{keys_of, pair_of, pair_under, nothing_for, is_fresh, note_of, fitted, stock_text};
@@ -112,12 +113,12 @@ impl Store {
         find(&self.pairs, key)
     }
 
-    /// The number of the pair under the key of a name and a version. It is found in so many comparisons as the logarithm of
-    /// their count.
+    /// The number of the pair under the key of a name and a version, whose part has that name. It is found in so many
+    /// comparisons as the logarithm of their count.
     pub fn place(&self, name: &[u8], version: &Version) -> Option<u32>
         ensures found { option_and_then (slice_get self.now.pairs) result ≡ pair_under (key_text name.now version.now) self.now.pairs }
         ensures within { IfSome result (λ at. at < length self.now.pairs) }
-        ensures named { (stored : Stored) → pair_under (key_text name.now version.now) self.now.pairs ≡ Some stored → stored.key.name ≡ name.now }
+        ensures named { (stored : Stored) → pair_under (key_text name.now version.now) self.now.pairs ≡ Some stored → part_name stored.part ≡ name.now }
     {
         let at = place_of(&self.pairs, name, version)?;
         // Both versions have five bytes, so that equal key texts have equal names.
