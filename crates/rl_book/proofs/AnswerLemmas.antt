@@ -119,7 +119,8 @@ untaken_kept i table delivered requests calls k same untaken asked items more =
       book = kept.book;
       base = kept.base;
       seen = kept.seen;
-      places = kept.places;
+      gifts = kept.gifts;
+      named = kept.named;
       parts =
           subst (λ (xs : List (Option Delivered)). KeepsParts (booked i).opening (reverse calls.items) xs) (sym untaken) kept.parts;
       requests = kept.requests;

@@ -1,10 +1,9 @@
 -- What a request brings a view, and what is asked for.
-use mathlib.Core.Path.{fun_ext}
 use Rattle.std.proofs.Common.{◌≡◌, ◌≢◌, ℕ, zero, suc, ◌+◌, ◌<◌, List, [], ◌∷◌, ◌++◌, Bool, true, false, cond, ◌&&◌, not, length, map, get_or}
 use Rattle.std.proofs.Common.{Option, Some, None, refl, ap, ap₂, sym, subst, ◌∙◌, arith, append_assoc, append-nil}
 use Rattle.std.specs.Prelude.{All, AllPairs, Contains, filter, fold, if◌then◌else◌, is_none, option_and_then, option_map, option_to_list, slice_get}
 use Rattle.std.specs.List.{cons_option, enumerate_from, filter_map, list_any}
-use Rattle.std.specs.Option.{option_map_or}
+use Rattle.std.specs.Option.{option_map_or, option_or}
 use Rattle.std.proofs.lemmas.Bool.{and_parts, not-true, or_parts}
 use Rattle.std.proofs.lemmas.List.Elements.{All-filter, Contains-get_or}
 use Rattle.std.proofs.lemmas.List.Kept.{AllPairs-filter}
@@ -27,12 +26,17 @@ use Rattle.rl_view.proofs.TouchesLemmas.{closure_within, seen_touch}
 use Rattle.rl_wire.specs.declared.part.Part.{Part}
 use Rattle.rl_batch.specs.Given.{MayBeAsked, is_private_at, numbered_rows}
 use Rattle.rl_book_spec.specs.Book.{events_of, request}
+use Rattle.rl_book_spec.specs.Given.{given_at_touch}
 use Rattle.rl_book_spec.specs.Opening.{Opening, answer_at_touch, answer_of, part_of, stored_of, view_of}
 use Rattle.rl_book_spec.specs.Traffic.{is_left, requested_by}
 use Rattle.rl_book_spec.specs.declared.Call.{Call}
+use Rattle.rl_book_spec.specs.declared.Origin.{Origin}
+use Rattle.rl_book_spec.specs.declared.Origin.TheVariants as origin
 use Rattle.rl_book_spec.specs.declared.Stored.{Stored}
 use Rattle.rl_book_spec.proofs.LawfulLemmas.{requests_touch}
-use Rattle.rl_book.specs.Requesting.{ArePlaces, after_held, after_request, answer_held, answer_held_at, firsts_of, is_left_at, left_of}
+use Rattle.rl_book.specs.Held.{Gift, gift_for, gifts_of}
+use Rattle.rl_book.specs.Requesting.{after_held, after_request, answer_by, answer_held_at, is_left_at, left_of}
+use Rattle.rl_book.proofs.HeldLemmas.{gift_there}
 
 -- ---- rows are given their answers, in order
 
@@ -40,63 +44,52 @@ joined : {X : Type 0} (o : Option X) (xs : List X) → option_to_list o ++ xs �
 joined None xs = refl
 joined (Some x) xs = refl
 
-module _ (v : View) (answer : Row → Option Answer) (past : List Event)
-    (plain : (row : Row) (version : Option Text) → answer (record row { version = version }) ≡ answer row) where
-  abbrev after_at : Progress → ℕ → Progress
-  after_at t k = given_to k (option_and_then answer (slice_get t.registered.rows k)) t
-
+module _ (v : View) (answer : Row → Option Answer) (gifts : List Gift) (past : List Event)
+    (held : (k : ℕ) (row : Row) → slice_get v.registered.rows k ≡ Some row → answer_by (gift_for gifts k) row.group ≡ answer row) where
   pub due_all : (event : Event) (rows : List ℕ) (t : Progress) → IsDue v event past t → ((k : ℕ) → Contains rows k → k < length v.registered.rows)
-      → IsDue v (with_answers (filter_map (brought_at answer v.registered) rows) event) past (fold after_at t rows)
+      → IsDue v (with_answers (filter_map (brought_at answer v.registered) rows) event) past (fold (after_held gifts) t rows)
   due_all event [] t s within =
       subst (λ (came : List (Text × Answer)). IsDue v (record event { came = came }) past t) (sym (append-nil event.came)) s
   due_all event (k ∷ rows) t s within =
       let m = place_there v.registered.rows k (within k (contains_head k rows)) in
       let row : Row = m.0 in
       let seen : slice_get t.registered.rows k ≡ Some (versioned v (event ∷ past) row) = row_seen v (event ∷ past) (log_of v past) t s k row m.1 in
-      let given : after_at t k ≡ given_to k (answer row) t =
-      ap (λ (found : Option Row). given_to k (option_and_then answer found) t) seen
-      ∙ ap (λ (answer : Option Answer). given_to k answer t) (plain row (version_of (first_of v (event ∷ past) row.name) row.version)) in
-      let next = seen_given v answer event past k row m.1 t (after_at t k) s given in
+      let given : after_held gifts t k ≡ given_to k (answer row) t =
+      ap (λ (found : Option Row). given_to k (option_and_then (λ (found : Row). answer_by (gift_for gifts k) found.group) found) t) seen
+      ∙ ap (λ (answer : Option Answer). given_to k answer t) (held k row m.1) in
+      let next = seen_given v answer event past k row m.1 t (after_held gifts t k) s given in
       let brought : brought_at answer v.registered k ≡ given_by answer row = ap (option_and_then (given_by answer)) m.1 in
       let more : List (Text × Answer) = filter_map (brought_at answer v.registered) rows in
-      subst (λ (came : List (Text × Answer)). IsDue v (record event { came = came }) past (fold after_at (after_at t k) rows))
+      subst (λ (came : List (Text × Answer)). IsDue v (record event { came = came }) past (fold (after_held gifts) (after_held gifts t k) rows))
       (append_assoc event.came (option_to_list (given_by answer row)) more
       ∙ ap (λ (came : List (Text × Answer)). event.came ++ came)
       (joined (given_by answer row) more ∙ ap (λ (first : Option (Text × Answer)). cons_option first more) (sym brought)))
-      (due_all (with_answers (option_to_list (given_by answer row)) event) rows (after_at t k) next (λ j c. within j (contains_tail k rows j c)))
+      (due_all (with_answers (option_to_list (given_by answer row)) event) rows (after_held gifts t k) next
+      (λ j c. within j (contains_tail k rows j c)))
 
--- ---- the places of parts
+-- ---- what rows are given at once
 
-firsts_now : (v : View) (past : List Event) (parts : List Part) (rows : List Row)
-    → map (λ (row : Row). part_of parts row.name) (map (versioned v past) rows) ≡ map (λ (row : Row). part_of parts row.name) rows
-firsts_now v past parts [] = refl
-firsts_now v past parts (row ∷ rows) = ap (λ (firsts : List (Option Part)). part_of parts row.name ∷ firsts) (firsts_now v past parts rows)
-
--- versions change nothing of them
-pub places_seen : (v : View) (past : List Event) (log : List ℕ) (t : Progress) (parts : List Part) (places : List (Option ℕ)) → HasSeen v past log t
-    → ArePlaces v.registered parts places → ArePlaces t.registered parts places
-places_seen v past log t parts places s are =
-    are ∙ sym (ap (λ (r : Registered). firsts_of r parts) (registered_seen v past log t s) ∙ firsts_now v past parts v.registered.rows)
-
--- ---- what came with the page, where nothing is stored
-
-none_stored : (o : Opening) (row : Row) → o.stored ≡ [] → stored_of o row ≡ None
-none_stored o row e =
-    ap (λ (stored : List Stored). stored_of (record o { stored = stored }) row) e ∙ step o.base.debug row.version
+-- a row is answered by what it is given, or by an error where it is private
+touched_by : (o : Opening) (row : Row) → answer_by (given_at_touch o row) row.group ≡ answer_at_touch o row
+touched_by o row = step (part_of o.embedded row.name) (is_private row.group) (stored_of o row)
   where
-    inner : (version : Option Text) → option_and_then {U = Stored} (λ (version : Text). None) version ≡ None
-    inner None = refl
-    inner (Some version) = refl
+    step : (part : Option Part) (private : Bool) (stored : Option Stored)
+        → or_else (option_map (λ (given : Part × Origin). answer_of given.0)
+        (option_or (option_map (λ (part : Part). (part, origin.Embedded)) part)
+        (if private then None else option_map (λ (stored : Stored). (stored.part, origin.Stored stored.wire)) stored)))
+        (if private then Some Failed else None)
+        ≡ or_else (option_map answer_of part)
+        (if private then Some Failed else option_map (λ (stored : Stored). answer_of stored.part) stored)
+    step None true stored = refl
+    step None false None = refl
+    step None false (Some stored) = refl
+    step (Some part) private stored = refl
 
-    step : (debug : Bool) (version : Option Text) → (if debug then None else option_and_then {U = Stored} (λ (version : Text). None) version) ≡ None
-    step true version = refl
-    step false version = inner version
+pub held_alike : (o : Opening) (gifts : List Gift) (k : ℕ) (row : Row) → gifts ≡ gifts_of o → slice_get o.registered.rows k ≡ Some row
+    → answer_by (gift_for gifts k) row.group ≡ answer_at_touch o row
+held_alike o gifts k row are there = ap (λ (gift : Gift). answer_by gift row.group) (gift_there o gifts k row are there) ∙ touched_by o row
 
-pub held_alike : (o : Opening) (row : Row) → o.stored ≡ [] → answer_held o.embedded row ≡ answer_at_touch o row
-held_alike o row e = sym (ap (λ (stored : Option Stored). or_else (option_map answer_of (part_of o.embedded row.name))
-    (if is_private row.group then Some Failed else option_map (λ (stored : Stored). answer_of stored.part) stored)) (none_stored o row e))
-
-module _ (throws : Throws) (o : Opening) (past : List Call) (log : List ℕ) (t : Progress) (nothing : o.stored ≡ [])
+module _ (throws : Throws) (o : Opening) (past : List Call) (log : List ℕ) (t : Progress) (gifts : List Gift) (are : gifts ≡ gifts_of o)
     (s : HasSeen (view_of throws o) (events_of o past) log t) where
   abbrev v : View
   v = view_of throws o
@@ -118,9 +111,10 @@ module _ (throws : Throws) (o : Opening) (past : List Call) (log : List ℕ) (t 
       then answer_in name event else None)) (untouched_none past name parts.1)
       ∙ ap (λ (b : Bool). or_else None (if b && not (is_skipped o.registered name) then answer_in name event else None)) e
 
-  answer_here : (k : ℕ) (row : Row) → slice_get o.registered.rows k ≡ Some row → answer_held_at o.embedded t.registered k ≡ answer_at_touch o row
+  answer_here : (k : ℕ) (row : Row) → slice_get o.registered.rows k ≡ Some row → answer_held_at gifts t.registered k ≡ answer_at_touch o row
   answer_here k row there =
-      ap (option_and_then (answer_held o.embedded)) (row_seen v events log t s k row there) ∙ held_alike o row nothing
+      ap (option_and_then (λ (found : Row). answer_by (gift_for gifts k) found.group)) (row_seen v events log t s k row there)
+      ∙ held_alike o gifts k row are there
 
   touched_here : (k : ℕ) (row : Row) → slice_get o.registered.rows k ≡ Some row
       → is_touched_at t k ≡ list_any (λ call. in_closures o.registered (requested_by o.registered call) row.name) past
@@ -137,11 +131,11 @@ module _ (throws : Throws) (o : Opening) (past : List Call) (log : List ℕ) (t 
     regroup false a b d = refl
 
     left_here : (k : ℕ) (row : Row) → slice_get o.registered.rows k ≡ Some row
-        → (in_closures o.registered names (name_at o.registered k) && is_left_at o.embedded t k) ≡ is_left o past names (k, row)
+        → (in_closures o.registered names (name_at o.registered k) && is_left_at gifts t k) ≡ is_left o past names (k, row)
     left_here k row there =
-        ap (λ (name : Text). in_closures o.registered names name && is_left_at o.embedded t k) (name_there o.registered k row there)
+        ap (λ (name : Text). in_closures o.registered names name && is_left_at gifts t k) (name_there o.registered k row there)
         ∙ ap (λ (b : Bool). in_closures o.registered names row.name
-        && (not b && not (is_skipped_at t.registered k) && is_none (answer_held_at o.embedded t.registered k))) (touched_here k row there)
+        && (not b && not (is_skipped_at t.registered k) && is_none (answer_held_at gifts t.registered k))) (touched_here k row there)
         ∙ ap₂ (λ (b : Bool) (answer : Option Answer). in_closures o.registered names row.name
         && (not (list_any (λ call. in_closures o.registered (requested_by o.registered call) row.name) past) && not b && is_none answer))
         (skipped_here k row there) (answer_here k row there)
@@ -197,42 +191,39 @@ by_rows {X = X} at p q s n (x ∷ xs) each =
     step false b true e g found rest = cc
 
 -- the rows that are left in the table are those that the request leaves
-pub left_rows : (throws : Throws) (o : Opening) (past : List Call) (log : List ℕ) (t : Progress) (names : List Text) → o.stored ≡ []
-    → HasSeen (view_of throws o) (events_of o past) log t
-    → numbered_rows t.registered (left_of o.embedded t (closure_numbers t.registered names))
+pub left_rows : (throws : Throws) (o : Opening) (past : List Call) (log : List ℕ) (t : Progress) (names : List Text) (gifts : List Gift)
+    → gifts ≡ gifts_of o → HasSeen (view_of throws o) (events_of o past) log t
+    → numbered_rows t.registered (left_of gifts t (closure_numbers t.registered names))
     ≡ filter (is_left o past names) (enumerate_from 0 o.registered.rows)
-left_rows throws o past log t names nothing s =
-    ap (λ (rows : List ℕ). numbered_rows t.registered (left_of o.embedded t rows)) (closures_here throws o past log t nothing s names)
-    ∙ by_rows (slice_get t.registered.rows) (is_left_at o.embedded t) (λ row. in_closures o.registered names (name_at o.registered row))
+left_rows throws o past log t names gifts are s =
+    ap (λ (rows : List ℕ). numbered_rows t.registered (left_of gifts t rows)) (closures_here throws o past log t gifts are s names)
+    ∙ by_rows (slice_get t.registered.rows) (is_left_at gifts t) (λ row. in_closures o.registered names (name_at o.registered row))
     (is_left o past names) 0 o.registered.rows
     (λ k row there. let zero : k ≡ 0 + k = omega arith in
-    subst (λ (m : ℕ). ((in_closures o.registered names (name_at o.registered m) && is_left_at o.embedded t m) ≡ is_left o past names (m, row))
+    subst (λ (m : ℕ). ((in_closures o.registered names (name_at o.registered m) && is_left_at gifts t m) ≡ is_left o past names (m, row))
     × (is_left o past names (m, row) ≡ true → slice_get t.registered.rows m ≡ Some row)) zero
-    (left_here throws o past log t nothing s names k row there, still_here throws o past log t nothing s names k row there))
+    (left_here throws o past log t gifts are s names k row there, still_here throws o past log t gifts are s names k row there))
 
 -- ---- what came
 
-pub asked_due : (throws : Throws) (o : Opening) (past : List Call) (t : Progress) (names : List Text) → o.stored ≡ []
+pub asked_due : (throws : Throws) (o : Opening) (past : List Call) (t : Progress) (names : List Text) (gifts : List Gift) → gifts ≡ gifts_of o
     → HasSeen (view_of throws o) (events_of o past) (log_of (view_of throws o) (events_of o past)) t
-    → IsDue (view_of throws o) (request o names) (events_of o past) (after_request o.embedded (closure_numbers t.registered names) t)
-asked_due throws o past t names nothing s =
+    → IsDue (view_of throws o) (request o names) (events_of o past) (after_request gifts (closure_numbers t.registered names) t)
+asked_due throws o past t names gifts are s =
     let v : View = view_of throws o in
     let events : List Event = events_of o past in
     let r : Registered = o.registered in
     let rows : List ℕ = closure_numbers t.registered names in
-    let same : rows ≡ closure_numbers r names = closures_here throws o past (log_of v events) t nothing s names in
-    let held : Row → Option Answer = answer_held o.embedded in
+    let same : rows ≡ closure_numbers r names = closures_here throws o past (log_of v events) t gifts are s names in
+    let held : Row → Option Answer = answer_at_touch o in
     let touched = seen_touch v names events t (after_touch rows t) s refl in
     let all : IsDue v (with_answers (filter_map (brought_at held r) (closure_numbers r names)) (asks names)) events
-    (fold (after_held o.embedded) (after_touch rows t) (closure_numbers r names)) =
-    due_all v held events (λ row version. refl) (asks names) (closure_numbers r names) (after_touch rows t) touched
+    (fold (after_held gifts) (after_touch rows t) (closure_numbers r names)) =
+    due_all v held gifts events (λ k row there. held_alike o gifts k row are there) (asks names) (closure_numbers r names) (after_touch rows t) touched
     (λ k c. subst (λ (j : ℕ). j < length r.rows) c.2 (closure_within r names c.0 k c.1)) in
-    subst (λ (xs : List ℕ). IsDue v (request o names) events (fold (after_held o.embedded) (after_touch rows t) xs)) (sym same)
+    subst (λ (xs : List ℕ). IsDue v (request o names) events (fold (after_held gifts) (after_touch rows t) xs)) (sym same)
     (subst (λ (came : List (Text × Answer)). IsDue v (record { requested = names; came = came }) events
-    (fold (after_held o.embedded) (after_touch rows t) (closure_numbers r names)))
-    (brought_all held r names
-    ∙ ap (λ (answer : Row → Option Answer). filter_map (given_by answer) (closure_rows r names)) (fun_ext (λ row. held_alike o row nothing)))
-    all)
+    (fold (after_held gifts) (after_touch rows t) (closure_numbers r names))) (brought_all held r names) all)
 
 -- ---- rows that may be asked for
 
@@ -251,27 +242,27 @@ numbers_apart n xs i j d lt low e =
 pub closure_once : (r : Registered) (names : List Text) → AllPairs (λ (a b : ℕ). a ≢ b) (closure_numbers r names)
 closure_once r names = AllPairs-filter (λ (a b : ℕ). a ≢ b) (λ row. in_closures r names (name_at r row)) (row_numbers r) (numbers_apart 0 r.rows)
 
-left_public : (parts : List Part) (r : Registered) (k : ℕ) → is_none (answer_held_at parts r k) ≡ true → is_private_at r k ≡ false
-left_public parts r k h = step (slice_get r.rows k) h
+left_public : (gifts : List Gift) (r : Registered) (k : ℕ) → is_none (answer_held_at gifts r k) ≡ true → is_private_at r k ≡ false
+left_public gifts r k h = step (slice_get r.rows k) h
   where
-    inner : (part : Option Answer) (private : Bool) → is_none (or_else part (if private then Some Failed else None)) ≡ true → private ≡ false
+    inner : (answer : Option Answer) (private : Bool) → is_none (or_else answer (if private then Some Failed else None)) ≡ true → private ≡ false
     inner None true h = cc
     inner None false h = refl
     inner (Some answer) private h = cc
 
-    step : (found : Option Row) → is_none (option_and_then (answer_held parts) found) ≡ true
+    step : (found : Option Row) → is_none (option_and_then (λ (found : Row). answer_by (gift_for gifts k) found.group) found) ≡ true
         → option_map_or (λ (found : Row). is_private found.group) found false ≡ false
     step None h = refl
-    step (Some row) h = inner (option_map answer_of (part_of parts row.name)) (is_private row.group) h
+    step (Some row) h = inner (option_map (λ (given : Part × Origin). answer_of given.0) (gift_for gifts k)) (is_private row.group) h
 
-pub may_be_asked : (parts : List Part) (t : Progress) (rows : List ℕ) → All (λ row. row < length t.registered.rows) rows
-    → AllPairs (λ (a b : ℕ). a ≢ b) rows → MayBeAsked t.registered (left_of parts t rows)
-may_be_asked parts t rows within once = record {
-  within = All-filter (is_left_at parts t) (λ row. row < length t.registered.rows) rows within;
-  once = AllPairs-filter (λ (a b : ℕ). a ≢ b) (is_left_at parts t) rows once;
+pub may_be_asked : (gifts : List Gift) (t : Progress) (rows : List ℕ) → All (λ row. row < length t.registered.rows) rows
+    → AllPairs (λ (a b : ℕ). a ≢ b) rows → MayBeAsked t.registered (left_of gifts t rows)
+may_be_asked gifts t rows within once = record {
+  within = All-filter (is_left_at gifts t) (λ row. row < length t.registered.rows) rows within;
+  once = AllPairs-filter (λ (a b : ℕ). a ≢ b) (is_left_at gifts t) rows once;
   public = λ k d low.
-      let row : ℕ = get_or (left_of parts t rows) k d in
-      let left = (filter_contains (is_left_at parts t) rows row (Contains-get_or (left_of parts t rows) k d low)).1 in
-      left_public parts t.registered row
-      (and_parts (not (is_touched_at t row) && not (is_skipped_at t.registered row)) (is_none (answer_held_at parts t.registered row)) left).1;
+      let row : ℕ = get_or (left_of gifts t rows) k d in
+      let left = (filter_contains (is_left_at gifts t) rows row (Contains-get_or (left_of gifts t rows) k d low)).1 in
+      left_public gifts t.registered row
+      (and_parts (not (is_touched_at t row) && not (is_skipped_at t.registered row)) (is_none (answer_held_at gifts t.registered row)) left).1;
 }

@@ -23,7 +23,9 @@ use Rattle.rl_book_spec.specs.declared.Batch.{Batch}
 use Rattle.rl_book_spec.specs.declared.Call.{Call}
 use Rattle.rl_book_spec.specs.declared.Call.TheVariants.{Using, Load}
 use Rattle.rl_book_spec.specs.declared.Plan.{Plan}
+use Rattle.rl_book_spec.specs.declared.Stored.{Stored}
 use Rattle.rl_book.specs.Asking.{Touched, batches_left}
+use Rattle.rl_book.specs.Held.{Gift, gifts_of}
 use Rattle.rl_book.specs.Opens.{opening_of}
 use Rattle.rl_book.proofs.AskedLemmas.{asked_due, left_rows}
 
@@ -32,9 +34,10 @@ pub record Follows (throws : Throws) (o : Opening) (past : List Call) (call : Ca
   pub due : IsDue (view_of throws o) (event_of o past call) (events_of o past) t
   pub traffic : q ≡ traffic_of o (call ∷ past)
 
-module _ (throws : Throws) (plan : Plan) (rows : List Row) (parts : List Part) (past : List Call) (t t' : Progress) (q q' : Traffic) where
+module _ (throws : Throws) (plan : Plan) (rows : List Row) (parts : List Part) (stored : List Stored) (gifts : List Gift)
+    (are : gifts ≡ gifts_of (opening_of plan rows parts stored)) (past : List Call) (t t' : Progress) (q q' : Traffic) where
   abbrev o : Opening
-  o = opening_of plan rows parts
+  o = opening_of plan rows parts stored
 
   abbrev v : View
   v = view_of throws o
@@ -43,20 +46,20 @@ module _ (throws : Throws) (plan : Plan) (rows : List Row) (parts : List Part) (
     refused_alike : (names : List Text) → refusal_of t.registered names ≡ refusal_of o.registered names
     refused_alike names = refusal_seen v (events_of o past) (log_of v (events_of o past)) t seen names
 
-    batches_alike : (names : List Text) → batches_left plan parts t (closure_numbers t.registered names) ≡ batches_for o past names
-    batches_alike names = ap (batches_of plan.base plan.limit) (left_rows throws o past (log_of v (events_of o past)) t names refl seen)
+    batches_alike : (names : List Text) → batches_left plan gifts t (closure_numbers t.registered names) ≡ batches_for o past names
+    batches_alike names = ap (batches_of plan.base plan.limit) (left_rows throws o past (log_of v (events_of o past)) t names gifts are seen)
 
     -- names that are accepted
-    came : (names : List Text) → Touched plan parts (closure_numbers t.registered names) t t' q q'
+    came : (names : List Text) → Touched plan gifts (closure_numbers t.registered names) t t' q q'
         → IsDue v (request o names) (events_of o past) t' × (q' ≡ with_batches (batches_for o past names) (traffic_of o past))
     came names touched = (
-      subst (λ (p : Progress). IsDue v (request o names) (events_of o past) p) (sym touched.table) (asked_due throws o past t names refl seen),
+      subst (λ (p : Progress). IsDue v (request o names) (events_of o past) p) (sym touched.table) (asked_due throws o past t names gifts are seen),
       touched.requests ∙ ap (λ (batches : List Batch). with_batches batches q) (batches_alike names)
           ∙ ap (with_batches (batches_for o past names)) traffic,
     )
 
     pub using_follows : (names : List Text) → refusal_of t.registered names ≡ None
-        → Touched plan parts (closure_numbers t.registered names) t t' q q' → Follows throws o past (Using names) t' q'
+        → Touched plan gifts (closure_numbers t.registered names) t t' q q' → Follows throws o past (Using names) t' q'
     using_follows names fine touched =
         let done = came names touched in
         let all : names ≡ accepted o.registered names =
@@ -67,7 +70,7 @@ module _ (throws : Throws) (plan : Plan) (rows : List Row) (parts : List Part) (
         }
 
     pub load_follows : (names asked : List Text) → asked ≡ accepted_each t.registered names
-        → Touched plan parts (closure_numbers t.registered asked) t t' q q' → Follows throws o past (Load names) t' q'
+        → Touched plan gifts (closure_numbers t.registered asked) t t' q q' → Follows throws o past (Load names) t' q'
     load_follows names asked are touched =
         let done = came asked touched in
         let all : asked ≡ accepted_each o.registered names =

@@ -6,6 +6,7 @@ pub mod DeliveredLemmas
 pub mod DeliveringLemmas
 pub mod ExecutingLemmas
 pub mod GivenLemmas
+pub mod HeldLemmas
 pub mod LoadingLemmas
 pub mod LookingLemmas
 pub mod MarksLemmas

@@ -23,12 +23,13 @@ use Rattle.rl_book.proofs.PartsLemmas.{load_gives}
 use Rattle.rl_book.proofs.ServingLemmas.{refusal_here, seen_all, served_kept}
 
 module _ (i : Inside) (b : Booked) (k : IsKept i) (view : booked i ≡ b) (rests : Rests b) (names : List Text) (dropped : ℕ) (table : Progress)
-    (requests : Traffic) (loads : Loads i.plan i.embedded.items names dropped i.table table i.requests requests) where
+    (requests : Traffic) (loads : Loads i.plan i.held.gifts names dropped i.table table i.requests requests) where
   pub load_kept : (calls : Vec Call Global) → calls.items ≡ i.calls.items ++ Load names ∷ [] → length i.calls.items + length i.requests.asks + 2 < 2 ^ 32
       → length i.calls.items + length i.requests.asks + 2 ≤ vec_capacity calls
       → IsKept (record i { table = table; requests = requests; calls = calls })
   load_kept calls grown few room =
-      let follows = load_follows (threw_in (booked i).opening.registered (booked i).ran) i.plan (rows_said i.startup) i.embedded.items (booked i).past
+      let follows = load_follows (threw_in (booked i).opening.registered (booked i).ran) i.plan (rows_said i.startup) i.held.embedded i.held.store.pairs i.held.gifts k.gifts
+      (booked i).past
       i.table table i.requests requests (seen_all i b k view rests) k.requests names (accepted_each i.table.registered names) refl loads.touched in
       let asks = ap (λ (t : Traffic). open_count t.asks) loads.touched.requests in
       served_kept i b k view rests (Load names) table requests calls follows (load_gives (booked i).opening names) asks grown few room

@@ -63,7 +63,8 @@ noted i call table delivered requests calls k grown stage seen parts traffic few
           (record { few = k.book.few; distinct = k.book.distinct; stage = stage });
       base = k.base;
       seen = subst (λ (xs : List Call). HasSeen (view_in (with_calls xs)) (events_in (with_calls xs)) (rows_run (with_calls xs)) table) (sym past) seen;
-      places = k.places;
+      gifts = k.gifts;
+      named = k.named;
       parts = subst (λ (xs : List Call). KeepsParts o xs delivered.items) (sym past) parts;
       requests =
           subst (λ (xs : List Call). requests ≡ traffic_in (with_calls xs)) (sym past)
@@ -85,7 +86,8 @@ still_kept i requests calls k e f more =
       book = subst (λ (xs : List Call). IsBook (with_calls xs)) (sym e) k.book;
       base = k.base;
       seen = subst (λ (xs : List Call). HasSeen (view_in (with_calls xs)) (events_in (with_calls xs)) (rows_run (with_calls xs)) i.table) (sym e) k.seen;
-      places = k.places;
+      gifts = k.gifts;
+      named = k.named;
       parts = subst (λ (xs : List Call). KeepsParts (booked i).opening (reverse xs) i.delivered.items) (sym e) k.parts;
       requests = f ∙ subst (λ (xs : List Call). i.requests ≡ traffic_in (with_calls xs)) (sym e) k.requests;
       runs = λ at run there. subst (λ (xs : List Call). IsRun (with_calls xs) (run.row, run.threw) run) (sym e) (k.runs at run there);

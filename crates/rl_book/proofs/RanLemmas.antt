@@ -78,7 +78,8 @@ module _ (i : Inside) (run : Run) (k : IsKept i) (due : due_row (booked i) ≡ S
               (record { few = k.book.few; distinct = k.book.distinct; stage = stage_more });
           base = k.base;
           seen = subst (λ (ran : List (ℕ × Bool)). HasSeen (view_in (with_ran ran)) (events_in b) (rows_run (with_ran ran)) table) (sym ran_more) seen;
-          places = k.places;
+          gifts = k.gifts;
+          named = k.named;
           parts = k.parts;
           requests = k.requests;
           runs = λ at other there.

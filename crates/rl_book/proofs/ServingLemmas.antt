@@ -23,7 +23,6 @@ use Rattle.rl_book_spec.proofs.StageLemmas.{stage_begins, stage_ends}
 use Rattle.rl_book.specs.Asking.{Touched}
 use Rattle.rl_book.specs.Calls.{HasExecuted, Rests, Told, due_row}
 use Rattle.rl_book.specs.Kept.{IsKept, KeepsParts, booked, rows_said}
-use Rattle.rl_book.specs.Requesting.{ArePlaces, firsts_of}
 use Rattle.rl_book.specs.Serving.{NotesUsing, RequestsAll, Serves, with_call}
 use Rattle.rl_book.specs.declared.error.UsingError.{UsingError}
 use Rattle.rl_book.specs.declared.error.UsingError.TheVariants as refused
@@ -32,20 +31,6 @@ use Rattle.rl_book.specs.declared.visit.Visit.TheInside.{Inside}
 use Rattle.rl_book.proofs.AskingLemmas.{Follows, using_follows}
 use Rattle.rl_book.proofs.NotedLemmas.{noted, open_at_most, still_kept}
 use Rattle.rl_book.proofs.PartsLemmas.{GivesAtTouch, parts_stay, using_gives}
-
--- ---- the places of embedded parts
-
-firsts_alike : (v : View) (past : List Event) (parts : List Part) (rows : List Row)
-    → map {A = Row} (λ row. part_of parts row.name) (map (versioned v past) rows) ≡ map {A = Row} (λ row. part_of parts row.name) rows
-firsts_alike v past parts [] = refl
-firsts_alike v past parts (row ∷ rows) = ap (λ (found : List (Option Part)). part_of parts row.name ∷ found) (firsts_alike v past parts rows)
-
--- they are those of the rows by now
-pub places_here : (i : Inside) → IsKept i → ArePlaces i.table.registered i.embedded.items i.places.items
-places_here i k =
-    let b : Booked = booked i in
-    k.places ∙ sym (firsts_alike (view_in b) (events_in b) i.embedded.items b.opening.registered.rows)
-    ∙ ap (λ (r : Registered). firsts_of r i.embedded.items) (sym (registered_seen (view_in b) (events_in b) (rows_run b) i.table k.seen))
 
 -- ---- nothing is due
 
@@ -94,12 +79,12 @@ module _ (i : Inside) (b : Booked) (k : IsKept i) (view : booked i ≡ b) (rests
 
   pub using_kept : (names : List Text) (table : Progress) (requests : Traffic) (calls : Vec Call Global)
       → refusal_of i.table.registered names ≡ None
-      → Touched i.plan i.embedded.items (closure_numbers i.table.registered names) i.table table i.requests requests
+      → Touched i.plan i.held.gifts (closure_numbers i.table.registered names) i.table table i.requests requests
       → calls.items ≡ i.calls.items ++ Using names ∷ [] → length i.calls.items + length i.requests.asks + 2 < 2 ^ 32
       → length i.calls.items + length i.requests.asks + 2 ≤ vec_capacity calls
       → IsKept (record i { table = table; requests = requests; calls = calls })
   using_kept names table requests calls fine touched grown few room =
-      let follows = using_follows (threw_in (booked i).opening.registered (booked i).ran) i.plan (rows_said i.startup) i.embedded.items (booked i).past
+      let follows = using_follows (threw_in (booked i).opening.registered (booked i).ran) i.plan (rows_said i.startup) i.held.embedded i.held.store.pairs i.held.gifts k.gifts (booked i).past
       i.table table i.requests requests seen_all k.requests names fine touched in
       let asks = ap (λ (t : Traffic). open_count t.asks) touched.requests in
       served_kept (Using names) table requests calls follows (using_gives (booked i).opening names) asks grown few room

@@ -1,25 +1,25 @@
 -- What a row of a view executes.
 use Rattle.std.proofs.Common.{◌≡◌, ℕ, ◌<◌, true, false, Option, Some, None, length, get_or, refl, ap, ap₂, sym, subst, ◌∙◌, arith}
-use Rattle.std.specs.Prelude.{IfOk, slice_get, Result, Ok, Err}
+use Rattle.std.specs.Prelude.{IfOk, option_and_then, slice_get, Result, Ok, Err}
 use Rattle.std.proofs.lemmas.Option.{slice_get-get_or}
-use Rattle.rl_view_spec.specs.Closure.{Text, Registered}
+use Rattle.rl_view_spec.specs.Closure.{Text, Registered, row_of}
 use Rattle.rl_view_spec.specs.Progress.{name_at}
 use Rattle.rl_view_spec.specs.View.{is_implementation}
-use Rattle.rl_view_spec.proofs.PlacesLemmas.{name_there}
-use Rattle.rl_view_spec.proofs.ToolsLemmas.{place_there}
+use Rattle.rl_view_spec.proofs.PlacesLemmas.{apart, number_named, place_of}
 use Rattle.rl_wire.specs.declared.part.Part.{Part}
 use Rattle.rl_book_spec.specs.Kept.{Booked}
-use Rattle.rl_book_spec.specs.Opening.{answer_of, part_of}
+use Rattle.rl_book_spec.specs.Given.{given_at_touch}
+use Rattle.rl_book_spec.specs.Opening.{answer_of}
 use Rattle.rl_book_spec.specs.declared.Origin.{Origin}
 use Rattle.rl_book_spec.specs.declared.Origin.TheVariants as origin
 use Rattle.rl_book.specs.Calls.{Executing, IsRun, is_answered}
 use Rattle.rl_book.specs.Kept.{IsKept, KeepsPart, booked}
-use Rattle.rl_book.specs.Requesting.{part_at}
+use Rattle.rl_book.specs.Held.{Gift, gift_for}
 use Rattle.rl_book.specs.declared.answer.Run.{Run}
 use Rattle.rl_book.specs.declared.given.Delivered.{Delivered}
 use Rattle.rl_book.specs.declared.visit.Visit.TheInside.{Inside}
-use Rattle.rl_book.proofs.GivenLemmas.{IsEmbedded, WasGiven, embedded_is, executing_runs, taken_is, was_given}
-use Rattle.rl_book.proofs.RequestingLemmas.{part_there}
+use Rattle.rl_book.proofs.GivenLemmas.{WasGiven, executing_runs, taken_is, touched_is, was_given}
+use Rattle.rl_book.proofs.HeldLemmas.{gift_there}
 
 pub if_ok : {T E : Type 0} (P Q : T → Type 0) (r : Result T E) → ((x : T) → P x → Q x) → IfOk r P → IfOk r Q
 if_ok P Q (Ok x) f p = f x p
@@ -39,7 +39,7 @@ module _ (i : Inside) (b : Booked) (row : ℕ) (kept : Option Delivered) (k : Is
   name = name_at (booked i).opening.registered row
 
   given_here : WasGiven (booked i).opening (booked i).past name
-  given_here = was_given (booked i).opening (booked i).past name k.book.distinct refl (ap (λ (b : Booked). is_answered b row) view ∙ answered)
+  given_here = was_given (booked i).opening (booked i).past name k.book.distinct k.named (ap (λ (b : Booked). is_answered b row) view ∙ answered)
 
   kept_here : KeepsPart (booked i).opening (booked i).past name kept
   kept_here = k.parts.each row kept there
@@ -63,30 +63,34 @@ module _ (i : Inside) (b : Booked) (row : ℕ) (kept : Option Delivered) (k : Is
     pub taken_runs : (run : Run) → Executing row taken.part (origin.Wire taken.mark) run → (run.threw ≡ false) × IsRun b (row, false) run
     taken_runs = run_here taken.part (origin.Wire taken.mark) taken_here
 
-  module _ (part : Option Part) (e : kept ≡ None) (low : row < length b.opening.registered.rows)
-      (is : part ≡ part_at i.embedded.items i.places.items row) where
-    embedded_here : IsEmbedded (booked i).opening name given_here.given
-    embedded_here = embedded_is (booked i).opening (booked i).past name kept given_here refl kept_here e
+  module _ (gift : Gift) (e : kept ≡ None) (low : row < length b.opening.registered.rows) (is : gift ≡ gift_for i.held.gifts row) where
+    abbrev r : Registered
+    r = (booked i).opening.registered
 
-    part_here : part ≡ Some given_here.given.0
-    part_here =
-        let r : Registered = (booked i).opening.registered in
-        let m = place_there r.rows row (subst (λ (b : Booked). row < length b.opening.registered.rows) (sym view) low) in
-        is ∙ part_there r i.embedded.items i.places.items row m.0 k.places m.1 ∙ ap (part_of i.embedded.items) (sym (name_there r row m.0 m.1))
-        ∙ embedded_here.part
+    inside : row < length r.rows
+    inside = subst (λ (b : Booked). row < length b.opening.registered.rows) (sym view) low
 
-    pub embedded_there : part ≡ None → ⊥
-    embedded_there none = let s : None ≡ Some given_here.given.0 = sym none ∙ part_here in cc
+    gift_here : gift ≡ Some given_here.given
+    gift_here =
+        let p = place_of r name (number_named r row inside) in
+        let at : p.at ≡ row = apart r k.book.distinct p.at row p.inside inside p.named in
+        let found : option_and_then (given_at_touch (booked i).opening) (row_of r name) ≡ Some given_here.given =
+        touched_is (booked i).opening (booked i).past name kept given_here kept_here e in
+        is ∙ gift_there (booked i).opening i.held.gifts row p.row k.gifts (ap (slice_get r.rows) (sym at) ∙ p.there)
+        ∙ ap (option_and_then (given_at_touch (booked i).opening)) (sym p.found) ∙ found
 
-    embedded_given : (p : Part) → part ≡ Some p → given_here.given ≡ (p, origin.Embedded)
-    embedded_given p some =
-        let s : Some given_here.given.0 ≡ Some p = sym part_here ∙ some in
-        let first : given_here.given.0 ≡ p = cc in
-        ap₂ (λ (x : Part) (y : Origin). (x, y)) first embedded_here.from
+    pub gift_none : gift ≡ None → ⊥
+    gift_none none = let s : None ≡ Some given_here.given = sym none ∙ gift_here in cc
 
-    pub embedded_implements : (p : Part) → part ≡ Some p → is_implementation (Some (answer_of p)) ≡ true
-    embedded_implements p some = implements p origin.Embedded (embedded_given p some)
+    gift_given : (part : Part) (from : Origin) → gift ≡ Some (part, from) → given_here.given ≡ (part, from)
+    gift_given part from some = let s : Some given_here.given ≡ Some (part, from) = sym gift_here ∙ some in some_same s
+      where
+        some_same : {X : Type 0} {x y : X} → Some x ≡ Some y → x ≡ y
+        some_same e = cc
 
-    pub embedded_runs : (p : Part) → part ≡ Some p → (run : Run) → Executing row p origin.Embedded run
+    pub gift_implements : (part : Part) (from : Origin) → gift ≡ Some (part, from) → is_implementation (Some (answer_of part)) ≡ true
+    gift_implements part from some = implements part from (gift_given part from some)
+
+    pub gift_runs : (part : Part) (from : Origin) → gift ≡ Some (part, from) → (run : Run) → Executing row part from run
         → (run.threw ≡ false) × IsRun b (row, false) run
-    embedded_runs p some = run_here p origin.Embedded (embedded_given p some)
+    gift_runs part from some = run_here part from (gift_given part from some)

@@ -1,5 +1,5 @@
 -- What rows are given when they are touched: parts that came with the page, and parts that were stored under their keys.
-use Rattle.std.specs.Prelude.{◌≡◌, ℕ, List, Bool, if◌then◌else◌, map, option_and_then, option_map, slice_get, Option, Some, None}
+use Rattle.std.specs.Prelude.{◌≡◌, ◌<◌, ℕ, List, Bool, if◌then◌else◌, map, option_and_then, option_map, slice_get, Option, Some, None}
 use Rattle.std.specs.Option.{option_or}
 use Rattle.rl_names.specs.Name.{key_text}
 use Rattle.rl_names.specs.declared.row.Row.{Row}
@@ -71,7 +71,13 @@ gift_by part stored =
 abbrev pub gift_in : List Part → Bool → List Stored → Row → Gift
 gift_in parts debug pairs row = gift_by (part_of parts row.name) (stored_for debug pairs row)
 
--- what is stored for one of these rows is a part of its name, where no part came for it with the page
+-- what is stored for one of the first rows is a part of its name, where no part came for it with the page
+abbrev pub NamesBelow : ℕ → List Part → Bool → List Stored → List Row → Type 0
+NamesBelow n parts debug pairs rows =
+    (k : ℕ) (row : Row) (stored : Stored) → k < n → slice_get rows k ≡ Some row → part_of parts row.name ≡ None
+    → stored_for debug pairs row ≡ Some stored → part_name stored.part ≡ row.name
+
+-- so for all rows
 abbrev pub NamesStored : List Part → Bool → List Stored → List Row → Type 0
 NamesStored parts debug pairs rows =
     (k : ℕ) (row : Row) (stored : Stored) → slice_get rows k ≡ Some row → part_of parts row.name ≡ None → stored_for debug pairs row ≡ Some stored

@@ -12,12 +12,13 @@ ghost use Rattle.rl_book.specs.Serving.{Delivers, LoadsEach, RequestsAll};
 use crate::answer::{Ask, Lost, Run};
 use crate::boxes::Boxes;
 use crate::error::{DeliverError, LoseRefusal, OpenError, UsingError};
-use crate::visit::Visit;
+use crate::visit::{Visit, VisitTurned};
 use rl_base::{Hears, Observer};
 use rl_book_spec::{Call, Mark, Plan, Took};
 use rl_names::{NoMemory, Text};
 use rl_registry::Registry;
 use rl_states::Phase;
+use rl_store::Store;
 use std::alloc::Global;
 
 /// One page view, and the observers who are told of what executes.
@@ -27,10 +28,11 @@ pub struct Book {
     pub observers: Boxes,
 }
 
-/// Why a book does not open, with the observers that were handed in.
+/// Why a book does not open, with the store and the observers that were handed in.
 #[derive(Drop)]
 pub struct Turned {
     pub why: OpenError,
+    pub store: Store,
     pub observers: Vec<Box<dyn Observer + Send>>,
 }
 
@@ -41,26 +43,31 @@ pub struct Closed {
 }
 
 impl Book {
-    /// Opens a view over a startup text and a plan, for these observers. The plan's query has no modules and no version.
-    /// Where it does not open they are handed back.
+    /// Opens a view over a startup text, a plan and a store, for these observers. The plan's query has no modules and no
+    /// version. Where it does not open, the store and the observers are handed back.
     pub fn open(
         alloc: Global,
         startup: &[u8],
         plan: Plan,
+        store: Store,
         observers: Vec<Box<dyn Observer + Send>>,
     ) -> Result<Book, Turned>
         requires { IsBase plan.base }
-        ensures opens { IfOk result (λ book. Opens (Ok book.visit) startup.now plan) }
-        ensures refused { IfErr result (λ turned. Opens (Err turned.why) startup.now plan) }
+        ensures opens { IfOk result (λ book. Opens (Ok book.visit) startup.now plan store.pairs) }
+        ensures refused { IfErr result (λ turned. Opens (Err turned.why) startup.now plan store.pairs) }
         ensures kept { IfOk result (λ book. book.observers.all ≡ observers) }
-        ensures back { IfErr result (λ turned. turned.observers ≡ observers) }
+        ensures back { IfErr result (λ turned. (turned.store ≡ store) × (turned.observers ≡ observers)) }
     {
-        match Visit::open(alloc, startup, plan) {
+        match Visit::open(alloc, startup, plan, store) {
             Ok(visit) => Ok(Book {
                 visit,
                 observers: Boxes { all: observers },
             }),
-            Err(why) => Err(Turned { why, observers }),
+            Err(VisitTurned { why, store }) => Err(Turned {
+                why,
+                store,
+                observers,
+            }),
         }
     }
 

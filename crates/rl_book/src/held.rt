@@ -97,6 +97,16 @@ fn place_for(
     }
 }
 
+/// The place that a row has, if it has one.
+fn first_at(firsts: &[Option<usize>], row: u32) -> Option<usize>
+    ensures { result ≡ option_and_then (λ first. first) (slice_get firsts.now row) }
+{
+    match firsts.get(row as usize) {
+        Some(first) => *first,
+        None => None,
+    }
+}
+
 /// For each row where the part stands that it is given, where each has the place of the first that came with the page.
 fn places_for(
     alloc: Global,
@@ -113,10 +123,7 @@ fn places_for(
 {
     let mut places = Vec::with_capacity(alloc, registry.count() as usize)?;
     for row in 0..registry.count() {
-        let first = match firsts.get(row as usize) {
-            Some(first) => *first,
-            None => None,
-        };
+        let first = first_at(firsts, row);
         let place = place_for(parts, store, debug, registry.row_at(row), first);
         places.push(place)?;
     }

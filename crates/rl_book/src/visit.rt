@@ -13,25 +13,26 @@ ghost use Rattle.rl_book_spec.specs.declared.Call.TheVariants.{Take, Deliver, Lo
 ghost use Rattle.rl_book_spec.specs.declared.Sent.{Sent};
 ghost use Rattle.rl_book.specs.Calls.{ExecutesNext, IsRun, Loses, Refuses, Rests, Resumes, StateIs, Takes, batch_at, due_row, has_waiting};
 ghost use Rattle.rl_book.specs.Calls.{is_answered, is_lost_at, is_settled_at, losses_at, next_ask};
-ghost use Rattle.rl_book.specs.Opens.{Opens};
+ghost use Rattle.rl_book.specs.Opens.{IsReady, Opens};
 ghost use Rattle.rl_book.specs.Serving.{Delivers, LoadsEach, NotesDelivery, NotesLoad, NotesUsing, RequestsAll};
 
 use crate::answer::{Ask, Lost, Run};
 use crate::delivering::deliver_parts;
 use crate::error::{DeliverError, LoseRefusal, OpenError, UsingError};
-use crate::given::{Delivered, none_delivered};
+use crate::given::Delivered;
 use crate::giving::{give_up_at_third, lose_open, losses_of};
-use crate::opening::{parts_said, rows_said};
+use crate::held::Held;
+use crate::opening::{Ready, prepare};
 use crate::requesting::{load, request};
 use crate::running::run_with;
 use crate::serving::{copies, make_room};
-use crate::touching::{first_of, places_of};
 use rl_base::Hears;
 use rl_batch::Requests;
 use rl_batch::requests::is_settled;
 use rl_book_spec::{Call, Mark, Origin, Plan, Took};
 use rl_names::{Blob, NoMemory, Seq, Text};
 use rl_registry::{Registry, ResolveError};
+use rl_store::Store;
 use rl_states::{Phase, Table};
 use rl_view::uncounted;
 use rl_wire::{Part, WireError, read_answer};
@@ -46,13 +47,10 @@ pub struct Visit {
     startup: Blob,
     plan: Plan,
 
-    /// What the embedded text brings.
-    embedded: Vec<Part>,
+    /// What the embedded text brings, the store, and what each row is given of them.
+    held: Held,
 
     table: Table,
-
-    /// For each row the place of the first embedded part of its name, if there is one.
-    places: Vec<Option<usize>>,
 
     /// For each row the part of an answer that it took, if it took one.
     delivered: Vec<Option<Delivered>>,
@@ -62,6 +60,13 @@ pub struct Visit {
 
     /// There is room for each row.
     runs: Vec<Run>,
+}
+
+/// Why a view does not open, with the store that was handed in.
+#[derive(Drop)]
+pub struct VisitTurned {
+    pub why: OpenError,
+    pub store: Store,
 }
 
 impl Model for Visit {
@@ -76,32 +81,46 @@ impl Model for Visit {
 }
 
 impl Visit {
-    /// Opens a view over a startup text and a plan. The plan's query has no modules and no version.
-    pub fn open(alloc: Global, startup: &[u8], plan: Plan) -> Result<Visit, OpenError>
-        requires { IsBase plan.base }
-        ensures { Opens result startup.now plan }
+    /// A view over what was read and made room for, and the store that was looked into.
+    fn over(alloc: Global, ready: Ready, plan: Plan, store: Store) -> Visit
+        requires base { IsBase plan.base }
+        requires ready { (startup : List ℕ) × IsReady ready startup plan store.pairs }
+        ensures { (startup : List ℕ) → IsReady ready startup plan store.pairs → Opens (Ok result) startup plan store.pairs }
     {
-        let rows = rows_said(alloc, startup)?;
-        let embedded = parts_said(alloc, plan.embedded.as_bytes())?;
-        let registry = Registry::read(alloc, rows, plan.features.as_slice())?;
-        let count = registry.count();
-        let runs = Vec::with_capacity(alloc, count as usize)?;
-        let delivered = none_delivered(alloc, count)?;
-        let places = places_of(alloc, &registry, embedded.as_slice())?;
-        let table = Table::open(alloc, registry)?;
-        let startup = Blob::of(alloc, startup)?;
-        Ok(Visit {
+        Visit {
             alloc,
-            startup,
+            startup: ready.startup,
             plan,
-            embedded,
-            table,
-            places,
-            delivered,
+            held: Held {
+                embedded: ready.embedded,
+                store,
+                places: ready.places,
+            },
+            table: ready.table,
+            delivered: ready.delivered,
             requests: Requests::new(alloc),
             calls: Vec::new(alloc),
-            runs,
-        })
+            runs: ready.runs,
+        }
+    }
+
+    /// Opens a view over a startup text, a plan and a store. The plan's query has no modules and no version. Where it does
+    /// not open the store is handed back.
+    pub fn open(
+        alloc: Global,
+        startup: &[u8],
+        plan: Plan,
+        store: Store,
+    ) -> Result<Visit, VisitTurned>
+        requires { IsBase plan.base }
+        ensures opens { IfOk result (λ visit. Opens (Ok visit) startup.now plan store.pairs) }
+        ensures refused { IfErr result (λ turned. Opens (Err turned.why) startup.now plan store.pairs) }
+        ensures back { IfErr result (λ turned. turned.store ≡ store) }
+    {
+        match prepare(alloc, startup, &plan, &store) {
+            Ok(ready) => Ok(Visit::over(alloc, ready, plan, store)),
+            Err(why) => Err(VisitTurned { why, store }),
+        }
     }
 
     /// What is asked for next.
@@ -217,8 +236,7 @@ impl Visit {
             &mut self.table,
             &mut self.requests,
             &self.plan,
-            self.embedded.as_slice(),
-            self.places.as_slice(),
+            &self.held,
             names,
         );
         match done {
@@ -262,8 +280,7 @@ impl Visit {
             &mut self.table,
             &mut self.requests,
             &self.plan,
-            self.embedded.as_slice(),
-            self.places.as_slice(),
+            &self.held,
             names,
         )?;
         let names = Seq::of(copies);
@@ -381,8 +398,8 @@ impl Visit {
     {
         match &self.delivered[row as usize] {
             Some(taken) => run_with(row, &taken.part, Origin::Wire { mark: taken.mark }),
-            None => match first_of(self.embedded.as_slice(), self.places.as_slice(), row) {
-                Some(part) => run_with(row, part, Origin::Embedded),
+            None => match self.held.given(row) {
+                Some((part, origin)) => run_with(row, part, origin),
                 None => unreachable!(),
             },
         }

@@ -16,7 +16,7 @@ returns-in-Ok-clause-ok c =
     record {
       dropped_are = number ∙ ap (λ (names : List Text). length c.args.names.now - length names) asked ∙ dropped_are r c.args.names.now;
       touched =
-          subst (λ (names : List Text). Touched c.args.plan.now c.args.parts.now (closure_numbers r names) c.args.table.now c.request.new.table
+          subst (λ (names : List Text). Touched c.args.plan.now c.args.held.now.gifts (closure_numbers r names) c.args.table.now c.request.new.table
           c.args.requests.now c.request.new.requests) asked c.in-Ok.ensures.asks.1;
     }
 

@@ -8,4 +8,4 @@ pub batches-requires-clause-rows : goal.batches-requires-clause-rows
 batches-requires-clause-rows c =
     subst (λ (r : Registered). MayBeAsked r c.as_slice.result.now) (sym c.registry.ensures)
     (subst (λ (rows : List ℕ). MayBeAsked c.args.table.now.registered rows) (sym (c.as_slice.ensures.value ∙ c.in_ok-left.ensures))
-    (may_be_asked c.args.parts.now c.args.table.now c.args.rows.now c.requires.within c.requires.once))
+    (may_be_asked c.args.held.now.gifts c.args.table.now c.args.rows.now c.requires.within c.requires.once))

@@ -12,12 +12,12 @@ has_part found = is_some (option_map (λ (part : Bor Part). part.now) found)
 pub returns-in-Some : goal.returns-in-Some
 returns-in-Some c =
     ap (λ (found : Option (Bor Part)). has_part found || is_private_at c.args.registry.now c.args.row) (sym c.in-Some.is)
-    ∙ some_held c.args.registry.now c.args.parts.now c.args.places.now c.args.row (option_map (λ (part : Bor Part). part.now) c.first_of.result)
-    c.requires.places c.requires.within c.first_of.ensures
+    ∙ some_held c.args.registry.now c.args.held.now.gifts c.args.row (option_map (λ (part : Bor Part). part.now) c.part.result)
+    c.requires.within c.part.ensures
 
 pub returns-in-None : goal.returns-in-None
 returns-in-None c =
     c.is_private.ensures
     ∙ ap (λ (found : Option (Bor Part)). has_part found || is_private_at c.args.registry.now c.args.row) (sym c.in-None.is)
-    ∙ some_held c.args.registry.now c.args.parts.now c.args.places.now c.args.row (option_map (λ (part : Bor Part). part.now) c.first_of.result)
-    c.requires.places c.requires.within c.first_of.ensures
+    ∙ some_held c.args.registry.now c.args.held.now.gifts c.args.row (option_map (λ (part : Bor Part). part.now) c.part.result)
+    c.requires.within c.part.ensures

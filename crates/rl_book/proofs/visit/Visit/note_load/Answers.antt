@@ -4,22 +4,15 @@ use Rattle.rl_wire.specs.declared.part.Part.{Part}
 use Rattle.rl_book_spec.specs.declared.Call.{Call}
 use Rattle.rl_book_spec.specs.declared.Call.TheVariants.{Load}
 use Rattle.rl_book.specs.Asking.{Loads}
-use Rattle.rl_book.specs.Requesting.{ArePlaces}
 use Rattle.rl_book.proofs.CallsLemmas.{note_is}
 use Rattle.rl_book.proofs.LoadingLemmas.{dropped_here, load_kept}
 use Rattle.rl_book.proofs.NotedLemmas.{still_kept}
-use Rattle.rl_book.proofs.ServingLemmas.{places_here, unserved_kept}
+use Rattle.rl_book.proofs.ServingLemmas.{unserved_kept}
 use Rattle.rl_book.proofs.visit.Visit.note_load.Goals as goal
 
 pub invariant_of-self : goal.invariant_of-self
 invariant_of-self c =
     still_kept c.self.inside c.self.inside.requests c.make_room.new.calls c.self.invariant c.make_room.ensures.items refl c.make_room.ensures.more
-
-pub load-requires-clause-places : goal.load-requires-clause-places
-load-requires-clause-places c =
-    subst (λ (parts : List Part). ArePlaces c.self.inside.table.registered parts c.as_slice-2.result.now) (sym c.as_slice.ensures.value)
-    (subst (λ (places : List (Option ℕ)). ArePlaces c.self.inside.table.registered c.self.inside.embedded.items places) (sym c.as_slice-2.ensures.value)
-    (places_here c.self.inside c.self.invariant))
 
 pub invariant_of-self-in_err-dropped : goal.invariant_of-self-in_err-dropped
 invariant_of-self-in_err-dropped c =
@@ -29,16 +22,12 @@ invariant_of-self-in_err-dropped c =
 pub invariant_of-self-2 : goal.invariant_of-self-2
 invariant_of-self-2 c =
     let names : List Text = c.args.names.now in
-    let loads : Loads c.self.inside.plan c.self.inside.embedded.items names c.in_ok-dropped.dropped c.self.inside.table c.load.new.table
-    c.self.inside.requests c.load.new.requests =
-    subst (λ (parts : List Part). Loads c.self.inside.plan parts names c.in_ok-dropped.dropped c.self.inside.table c.load.new.table
-    c.self.inside.requests c.load.new.requests) c.as_slice.ensures.value c.in_ok-dropped.ensures.ok in
     let long = ap length c.make_room.ensures.items in
     let few = c.in_ok-make_room.ensures.few in
     let room = c.in_ok-make_room.ensures.room in
     let same = c.push_reserved.ensures.capacity in
     load_kept c.self.inside c.args.self.now c.self.invariant c.self.view_is c.requires names c.in_ok-dropped.dropped c.load.new.table
-    c.load.new.requests loads c.push_reserved.new.self
+    c.load.new.requests c.in_ok-dropped.ensures.ok c.push_reserved.new.self
     (c.push_reserved.ensures.items ∙ ap₂ (λ (calls : List Call) (names : List Text). calls ++ Load names ∷ []) c.make_room.ensures.items
     (c.of-names.ensures ∙ c.in_ok-copies.ensures))
     (omega (arith, long, few)) (omega (arith, long, room, same))
@@ -46,12 +35,9 @@ invariant_of-self-2 c =
 pub returns : goal.returns
 returns c =
     let names : List Text = c.args.names.now in
-    let loads : Loads c.self.inside.plan c.self.inside.embedded.items names c.in_ok-dropped.dropped c.self.inside.table c.load.new.table
-    c.self.inside.requests c.load.new.requests =
-    subst (λ (parts : List Part). Loads c.self.inside.plan parts names c.in_ok-dropped.dropped c.self.inside.table c.load.new.table
-    c.self.inside.requests c.load.new.requests) c.as_slice.ensures.value c.in_ok-dropped.ensures.ok in (
+    (
       dropped_here c.self.inside c.args.self.now c.self.invariant c.self.view_is c.requires names c.in_ok-dropped.dropped c.load.new.table
-          c.load.new.requests loads,
+          c.load.new.requests c.in_ok-dropped.ensures.ok,
       note_is c.self.inside c.args.self.now (Load names) c.push_reserved.new.self.items c.self.view_is
           (c.push_reserved.ensures.items ∙ ap₂ (λ (calls : List Call) (names : List Text). calls ++ Load names ∷ []) c.make_room.ensures.items
           (c.of-names.ensures ∙ c.in_ok-copies.ensures)),

@@ -8,35 +8,24 @@ use Rattle.rl_book_spec.specs.declared.Call.{Call}
 use Rattle.rl_book_spec.specs.declared.Call.TheVariants.{Using}
 use Rattle.rl_book.specs.Asking.{Touched}
 use Rattle.rl_book.specs.Kept.{booked}
-use Rattle.rl_book.specs.Requesting.{ArePlaces}
 use Rattle.rl_book.proofs.CallsLemmas.{note_is}
 use Rattle.rl_book.proofs.NotedLemmas.{still_kept}
-use Rattle.rl_book.proofs.ServingLemmas.{places_here, refusal_here, unserved_kept, using_kept}
+use Rattle.rl_book.proofs.ServingLemmas.{refusal_here, unserved_kept, using_kept}
 use Rattle.rl_book.proofs.visit.Visit.note_using.Goals as goal
 
 pub invariant_of-self : goal.invariant_of-self
 invariant_of-self c =
     still_kept c.self.inside c.self.inside.requests c.make_room.new.calls c.self.invariant c.make_room.ensures.items refl c.make_room.ensures.more
 
-pub request-done-requires-clause-places : goal.request-done-requires-clause-places
-request-done-requires-clause-places c =
-    subst (λ (parts : List Part). ArePlaces c.self.inside.table.registered parts c.as_slice-2.result.now) (sym c.as_slice.ensures.value)
-    (subst (λ (places : List (Option ℕ)). ArePlaces c.self.inside.table.registered c.self.inside.embedded.items places) (sym c.as_slice-2.ensures.value)
-    (places_here c.self.inside c.self.invariant))
-
 pub invariant_of-self-in-Ok : goal.invariant_of-self-in-Ok
 invariant_of-self-in-Ok c =
     let names : List Text = c.args.names.now in
-    let touched : Touched c.self.inside.plan c.self.inside.embedded.items (closure_numbers c.self.inside.table.registered names) c.self.inside.table
-    c.request-done.new.table c.self.inside.requests c.request-done.new.requests =
-    subst (λ (parts : List Part). Touched c.self.inside.plan parts (closure_numbers c.self.inside.table.registered names) c.self.inside.table
-    c.request-done.new.table c.self.inside.requests c.request-done.new.requests) c.as_slice.ensures.value c.in-Ok.ensures.asks.1 in
     let long = ap length c.make_room.ensures.items in
     let few = c.in_ok-make_room.ensures.few in
     let room = c.in_ok-make_room.ensures.room in
     let same = c.push_reserved.ensures.capacity in
     using_kept c.self.inside c.args.self.now c.self.invariant c.self.view_is c.requires names c.request-done.new.table c.request-done.new.requests
-    c.push_reserved.new.self c.in-Ok.ensures.asks.0 touched
+    c.push_reserved.new.self c.in-Ok.ensures.asks.0 c.in-Ok.ensures.asks.1
     (c.push_reserved.ensures.items ∙ ap₂ (λ (calls : List Call) (names : List Text). calls ++ Using names ∷ []) c.make_room.ensures.items
     (c.of-names.ensures ∙ c.in_ok-copies.ensures))
     (omega (arith, long, few)) (omega (arith, long, room, same))

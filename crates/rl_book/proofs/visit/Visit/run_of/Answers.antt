@@ -1,11 +1,15 @@
-use Rattle.std.proofs.Common.{◌≡◌, ℕ, List, Option, false, Bor, ap, ap₂, ◌∙◌}
+use Rattle.std.proofs.Common.{◌≡◌, Option, false, Bor, ap}
 use Rattle.std.specs.Prelude.{option_map}
 use Rattle.rl_wire.specs.declared.part.Part.{Part}
+use Rattle.rl_book_spec.specs.declared.Origin.{Origin}
 use Rattle.rl_book_spec.specs.declared.Origin.TheVariants as origin
 use Rattle.rl_book.specs.Calls.{Executing, IsRun}
-use Rattle.rl_book.specs.Requesting.{part_at}
-use Rattle.rl_book.proofs.TellingLemmas.{embedded_implements, embedded_runs, embedded_there, if_ok, kept_there, taken_implements, taken_runs}
+use Rattle.rl_book.specs.Held.{Gift}
+use Rattle.rl_book.proofs.TellingLemmas.{gift_implements, gift_none, gift_runs, if_ok, kept_there, taken_implements, taken_runs}
 use Rattle.rl_book.proofs.visit.Visit.run_of.Goals as goal
+
+abbrev given_now : Option (Bor Part × Origin) → Gift
+given_now found = option_map (λ (given : Bor Part × Origin). (given.0.now, given.1)) found
 
 pub run_with-requires : goal.run_with-requires
 run_with-requires c =
@@ -23,32 +27,25 @@ returns-in-Some c =
     c.in-Some.taken c.in-Some.is)
     c.run_with.ensures
 
-pub run_with-requires-in-Some-first_of : goal.run_with-requires-in-Some-first_of
-run_with-requires-in-Some-first_of c =
+pub run_with-requires-in-Some-given : goal.run_with-requires-in-Some-given
+run_with-requires-in-Some-given c =
     let there = kept_there c.self.inside c.args.self.now c.args.row c.index.result.now c.self.invariant c.self.view_is c.requires.within c.index.ensures in
-    embedded_implements c.self.inside c.args.self.now c.args.row c.index.result.now c.self.invariant c.self.view_is c.requires.answered there
-    (option_map (λ (part : Bor Part). part.now) c.first_of.result) c.in-None.is c.requires.within
-    (c.first_of.ensures ∙ ap₂ (λ (parts : List Part) (places : List (Option ℕ)). part_at parts places c.args.row) c.as_slice.ensures.value
-    c.as_slice-in-None.ensures.value)
-    c.in-Some-first_of.part.now (ap (option_map (λ (part : Bor Part). part.now)) c.in-Some-first_of.is)
+    gift_implements c.self.inside c.args.self.now c.args.row c.index.result.now c.self.invariant c.self.view_is c.requires.answered there
+    (given_now c.given.result) c.in-None.is c.requires.within c.given.ensures c.in-Some-given.part.now c.in-Some-given.origin
+    (ap given_now c.in-Some-given.is)
 
 pub unreachable-requires : goal.unreachable-requires
 unreachable-requires c =
     let there = kept_there c.self.inside c.args.self.now c.args.row c.index.result.now c.self.invariant c.self.view_is c.requires.within c.index.ensures in
-    embedded_there c.self.inside c.args.self.now c.args.row c.index.result.now c.self.invariant c.self.view_is c.requires.answered there
-    (option_map (λ (part : Bor Part). part.now) c.first_of.result) c.in-None.is c.requires.within
-    (c.first_of.ensures ∙ ap₂ (λ (parts : List Part) (places : List (Option ℕ)). part_at parts places c.args.row) c.as_slice.ensures.value
-    c.as_slice-in-None.ensures.value)
-    (ap (option_map (λ (part : Bor Part). part.now)) c.in-None-first_of.is)
+    gift_none c.self.inside c.args.self.now c.args.row c.index.result.now c.self.invariant c.self.view_is c.requires.answered there
+    (given_now c.given.result) c.in-None.is c.requires.within c.given.ensures (ap given_now c.in-None-given.is)
 
-pub returns-in-Some-first_of : goal.returns-in-Some-first_of
-returns-in-Some-first_of c =
+pub returns-in-Some-given : goal.returns-in-Some-given
+returns-in-Some-given c =
     let there = kept_there c.self.inside c.args.self.now c.args.row c.index.result.now c.self.invariant c.self.view_is c.requires.within c.index.ensures in
-    if_ok (Executing c.args.row c.in-Some-first_of.part.now origin.Embedded) (λ run. (run.threw ≡ false) × IsRun c.args.self.now (c.args.row, false) run)
-    c.run_with-in-Some-first_of.result
-    (embedded_runs c.self.inside c.args.self.now c.args.row c.index.result.now c.self.invariant c.self.view_is c.requires.answered there
-    (option_map (λ (part : Bor Part). part.now) c.first_of.result) c.in-None.is c.requires.within
-    (c.first_of.ensures ∙ ap₂ (λ (parts : List Part) (places : List (Option ℕ)). part_at parts places c.args.row) c.as_slice.ensures.value
-    c.as_slice-in-None.ensures.value)
-    c.in-Some-first_of.part.now (ap (option_map (λ (part : Bor Part). part.now)) c.in-Some-first_of.is))
-    c.run_with-in-Some-first_of.ensures
+    if_ok (Executing c.args.row c.in-Some-given.part.now c.in-Some-given.origin) (λ run. (run.threw ≡ false) × IsRun c.args.self.now (c.args.row, false) run)
+    c.run_with-in-Some-given.result
+    (gift_runs c.self.inside c.args.self.now c.args.row c.index.result.now c.self.invariant c.self.view_is c.requires.answered there
+    (given_now c.given.result) c.in-None.is c.requires.within c.given.ensures c.in-Some-given.part.now c.in-Some-given.origin
+    (ap given_now c.in-Some-given.is))
+    c.run_with-in-Some-given.ensures

@@ -3,9 +3,9 @@ use Rattle.std.proofs.lemmas.List.{length-replicate, length-set}
 use Rattle.rl_view_spec.specs.Numbers.{number_of}
 use Rattle.rl_wire.specs.declared.part.Part.{Part}
 use Rattle.rl_book_spec.specs.Opening.{part_name}
-use Rattle.rl_book.specs.Requesting.{firsts_of}
-use Rattle.rl_book.proofs.RequestingLemmas.{place_nowhere, place_put, places_first}
-use Rattle.rl_book.proofs.touching.places_of.Goals as goal
+use Rattle.rl_book.specs.Held.{firsts_of}
+use Rattle.rl_book.proofs.HeldLemmas.{place_nowhere, place_put, places_first}
+use Rattle.rl_book.proofs.held.places_of.Goals as goal
 
 none_from : (P : Option ℕ → Type 0) → ((x : ℕ) → P (Some x) → ⊥) → (y : Option ℕ) → P y → y ≡ None
 none_from P some None h = refl

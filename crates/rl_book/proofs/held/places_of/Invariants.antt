@@ -1,6 +1,6 @@
 use Rattle.std.proofs.Common.{◌≡◌, ◌≤◌, length, drop}
-use Rattle.rl_book.specs.Requesting.{firsts_of, parts_at}
-use Rattle.rl_book.proofs.touching.places_of.Given as goal
+use Rattle.rl_book.specs.Held.{firsts_of, parts_at}
+use Rattle.rl_book.proofs.held.places_of.Given as goal
 
 abbrev pub decreases-parts : goal.decreases-parts
 decreases-parts l = l.at
