@@ -1,3 +1,6 @@
+pub mod MarksLemmas
+pub mod PickedLemmas
+pub mod MergedLemmas
 mod SearchLemmas
 mod StockLemmas
 mod Worked

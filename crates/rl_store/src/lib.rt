@@ -3,6 +3,7 @@
 
 mod copying;
 mod keys;
+mod merging;
 pub mod note;
 pub mod store;
 #[cfg(test)]
@@ -11,4 +12,4 @@ mod writing;
 
 pub use note::Note;
 pub use rl_book_spec::Stored;
-pub use store::{Opened, Store, Turned};
+pub use store::{AfterTurned, Opened, Store, Turned};

@@ -1,5 +1,4 @@
-use Rattle.std.proofs.Common.{◌≡◌, ◌∷◌, ◌++◌, [], refl, rules, append_assoc}
-use Rattle.rl_wire.specs.Tokens.{values_tokens}
+use Rattle.std.proofs.Common.{◌∷◌, [], refl, rules, append_assoc}
 use Rattle.rl_wire.proofs.PrintedLemmas.{written}
 use Rattle.rl_store.specs.Stock.{stock_value}
 use Rattle.rl_store.proofs.writing.write.Goals as goal
