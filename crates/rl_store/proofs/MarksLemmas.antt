@@ -1,5 +1,6 @@
 -- What marks say of pairs whose keys ascend.
-use Rattle.std.proofs.Common.{◌≡◌, ℕ, zero, suc, ◌+◌, ◌<◌, ◌≤◌, Bool, true, false, List, [], ◌∷◌, ◌++◌, length, map, Option, Some, None, Less, nat_cmp}
+use Rattle.std.proofs.Common.{◌≡◌, ℕ, zero, suc, ◌+◌, ◌<◌, ◌≤◌, Bool, true, false, List, [], ◌∷◌, ◌++◌, length, map}
+use Rattle.std.proofs.Common.{Option, Some, None, Less, nat_cmp}
 use Rattle.std.proofs.Common.{refl, ap, ap₂, sym, subst, ◌∙◌, arith, take, get_or, replicate}
 use Rattle.std.specs.Prelude.{bytes_eq, position, not, if◌then◌else◌, ◌&&◌, ◌||◌, nat_lt, slice_set, cond, slice_get, option_map}
 use Rattle.std.specs.List.{AllByRecursion, list_any, position_or_len}
@@ -121,7 +122,8 @@ pub row_key_more : (r : Registered) (n : ℕ) (row : Row) (version : Text) → s
 row_key_more r n row version at e s =
     let test : Row → Bool = λ row. option_map_or (λ other. bytes_eq (key_bytes other) (key_bytes s.key)) (row_key row) false in
     let here : test row ≡ is_under (key_text row.name version) s =
-    ap (λ (v : Option Text). option_map_or (λ other. bytes_eq (key_bytes other) (key_bytes s.key)) (option_map (λ version. record { name = row.name; version = version }) v) false) e
+    ap (λ (v : Option Text). option_map_or (λ other. bytes_eq (key_bytes other) (key_bytes s.key))
+    (option_map (λ version. record { name = row.name; version = version }) v) false) e
     ∙ flips (key_text row.name version) (key_bytes s.key) in
     sym (ap (list_any test) (take_get r.rows n row at) ∙ list_any-append test (take n r.rows) (row ∷ []) ∙ last (list_any test (take n r.rows)) (test row)
     (is_under (key_text row.name version) s) here)
@@ -146,7 +148,8 @@ row_key_none r n row at e pairs = alike (λ (s : Stored). is_key_of (record r { 
     each s =
         let test : Row → Bool = λ row. option_map_or (λ other. bytes_eq (key_bytes other) (key_bytes s.key)) (row_key row) false in
         let here : test row ≡ false =
-        ap (λ (v : Option Text). option_map_or (λ other. bytes_eq (key_bytes other) (key_bytes s.key)) (option_map (λ version. record { name = row.name; version = version }) v) false) e in
+        ap (λ (v : Option Text). option_map_or (λ other. bytes_eq (key_bytes other) (key_bytes s.key))
+        (option_map (λ version. record { name = row.name; version = version }) v) false) e in
         last (list_any test (take n r.rows)) (test row) here
         ∙ sym (ap (list_any test) (take_get r.rows n row at) ∙ list_any-append test (take n r.rows) (row ∷ []))
 

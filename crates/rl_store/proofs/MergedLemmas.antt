@@ -1,5 +1,6 @@
 -- New pairs and those that stay, by key.
-use Rattle.std.proofs.Common.{◌≡◌, ℕ, suc, ◌+◌, ◌<◌, ◌≤◌, ◌^◌, Bool, true, false, List, [], ◌∷◌, ◌++◌, length, map, get_or, Ordering, Less, Equal, Greater, nat_cmp}
+use Rattle.std.proofs.Common.{◌≡◌, ℕ, suc, ◌+◌, ◌<◌, ◌≤◌, ◌^◌, Bool, true, false, List, [], ◌∷◌, ◌++◌, length, map}
+use Rattle.std.proofs.Common.{get_or, Ordering, Less, Equal, Greater, nat_cmp}
 use Rattle.std.proofs.Common.{refl, ap, ap₂, sym, subst, ◌∙◌, arith, length-append}
 use Rattle.std.specs.Prelude.{bytes_eq, not, ◌&&◌, ◌||◌, if◌then◌else◌, filter, Contains}
 use Rattle.std.specs.List.{AllByRecursion, IsDistinct}

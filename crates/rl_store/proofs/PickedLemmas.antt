@@ -47,7 +47,8 @@ popped {X = X} marks ms xs ys (Some mark) w x long e f there d =
     let short : length ms ≡ length ys = omega (arith, n, m, long) in
     let last : List X = if w then x ∷ [] else [] in
     let whole : picked marks xs ≡ picked ms ys ++ last =
-    ap (λ all. picked all xs) f ∙ ap (picked (ms ++ mark ∷ [])) e ∙ picked_more ms ys mark x short ∙ ap (λ v. picked ms ys ++ (if v then x ∷ [] else [])) (sym d) in
+    ap (λ all. picked all xs) f ∙ ap (picked (ms ++ mark ∷ [])) e ∙ picked_more ms ys mark x short
+    ∙ ap (λ v. picked ms ys ++ (if v then x ∷ [] else [])) (sym d) in
     record { long = short; is = whole; count = ap length whole ∙ length-append (picked ms ys) last }
 
 pub passed_on : {X : Type 0} (from into left all more : List X) → IsPermutation from (into ++ all) → all ≡ left ++ more

@@ -16,7 +16,9 @@ pairs-preserved c =
     record {
       long = step.long;
       room = omega (arith, n, step.count, c.keep.ensures.room, c.pairs.invariant.room);
-      moved = subst (λ zs. IsPermutation (c.args.into.now.items ++ picked c.args.marks.items c.args.pairs.items) (zs ++ picked c.pop-in-Some.new.self.items c.pop.new.self.items)) (sym c.keep.ensures.items) (passed_on _ _ _ _ _ c.pairs.invariant.moved step.is);
+      moved = subst (λ zs. IsPermutation (c.args.into.now.items ++ picked c.args.marks.items c.args.pairs.items)
+          (zs ++ picked c.pop-in-Some.new.self.items c.pop.new.self.items)) (sym c.keep.ensures.items)
+          (passed_on _ _ _ _ _ c.pairs.invariant.moved step.is);
     }
 
 pub keep-requires : goal.keep-requires
