@@ -1,4 +1,5 @@
 pub mod MarksLemmas
+pub mod NamesLemmas
 pub mod PickedLemmas
 pub mod MergedLemmas
 mod SearchLemmas

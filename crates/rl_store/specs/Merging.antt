@@ -1,5 +1,7 @@
 -- Which of the older pairs stay beside new ones, as marks.
-use Rattle.std.specs.Prelude.{◌≢◌, ◌&&◌, List, [], ◌∷◌, Bool, AllPairs, not, bytes_eq, if◌then◌else◌}
+use Rattle.std.specs.Prelude.{◌≢◌, ◌&&◌, List, [], ◌∷◌, Bool, AllPairs, not, bytes_eq, if◌then◌else◌, IsTrue}
+use Rattle.std.specs.List.{AllByRecursion}
+use Rattle.rl_names.specs.Name.{is_name, is_version}
 use Rattle.rl_view_spec.specs.Closure.{Text, Registered}
 use Rattle.rl_book_spec.specs.Closing.{key_bytes, is_key_of, has_key}
 use Rattle.rl_book_spec.specs.declared.Stored.{Stored}
@@ -27,3 +29,9 @@ abbrev pub picked : {X : Type 0} → List Bool → List X → List X
 picked [] xs = []
 picked (mark ∷ marks) [] = []
 picked (mark ∷ marks) (x ∷ xs) = if mark then x ∷ picked marks xs else picked marks xs
+
+-- pairs of different names have different keys
+abbrev pub NamesTellKeys : Type 0
+NamesTellKeys =
+    (pairs : List Stored) → AllByRecursion (λ (stored : Stored). IsTrue (is_name stored.key.name) × IsTrue (is_version stored.key.version)) pairs
+    → AllPairs (λ a b. a.key.name ≢ b.key.name) pairs → HaveDistinctKeys pairs

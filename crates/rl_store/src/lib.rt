@@ -10,6 +10,7 @@ pub mod store;
 mod tests;
 mod writing;
 
+pub use merging::name_laws;
 pub use note::Note;
 pub use rl_book_spec::Stored;
 pub use store::{AfterTurned, Opened, Store, Turned};

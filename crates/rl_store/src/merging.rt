@@ -9,7 +9,7 @@ ghost use Rattle.std.specs.Vec.{vec_capacity};
 ghost use Rattle.rl_names.specs.Name.{key_text};
 ghost use Rattle.rl_book_spec.specs.Batches.{sorted_by};
 ghost use Rattle.rl_book_spec.specs.Closing.{age_at, is_key_of, stored_before};
-ghost use Rattle.rl_store.specs.Merging.{is_under, marked, picked, stays};
+ghost use Rattle.rl_store.specs.Merging.{is_under, marked, picked, stays, NamesTellKeys};
 ghost use Rattle.rl_store.specs.Stock.{keys_of, pair_of};
 
 use crate::keys::{compare, compare_with};
@@ -20,6 +20,11 @@ use std::alloc::Global;
 
 /// How many pairs a store keeps at most.
 const MAX_PAIRS: usize = 4_294_967_295;
+
+/// Pairs of different names have different keys.
+pub fn name_laws()
+    ensures { NamesTellKeys }
+{}
 
 /// The place of the pair under a key, among pairs in byte order of their key texts.
 pub(crate) fn place_of(pairs: &[Stored], name: &Name, version: &Version) -> Option<usize>
