@@ -67,7 +67,7 @@ fn stored_place(store: &Store, debug: bool, row: &Row) -> Option<u32>
         return None;
     }
     match &row.version {
-        Some(version) => store.place(row.name.as_bytes(), version),
+        Some(version) => store.place(&row.name, version),
         None => None,
     }
 }

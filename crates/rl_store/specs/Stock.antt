@@ -6,8 +6,8 @@ use Rattle.std.specs.List.Sorted.{IsStrictlySortedBy}
 use Rattle.std.specs.Ordering.{nat_cmp}
 use Rattle.std.specs.Cmp.Lexicographic.{slice_cmp}
 use Rattle.rl_names.specs.declared.name.Key.{Key}
-use Rattle.rl_view_spec.specs.Closure.{Text}
-use Rattle.rl_book_spec.specs.Closing.{key_bytes}
+use Rattle.rl_view_spec.specs.Closure.{Text, Registered}
+use Rattle.rl_book_spec.specs.Closing.{key_bytes, age_at, pairs_after}
 use Rattle.rl_book_spec.specs.Laws.{IsOfKey}
 use Rattle.rl_book_spec.specs.declared.Stored.{Stored}
 use Rattle.rl_wire.specs.Line.{part_text, IsInOrder}
@@ -59,6 +59,10 @@ note_of stock vary now = if not (bytes_eq stock.vary vary) then OtherVary else (
 abbrev pub fitted : Note → Stock → Text → Stock
 fitted Fresh stock vary = stock
 fitted other stock vary = nothing_for vary
+
+-- what it is after a view that ends at a moment, with new pairs
+abbrev pub stock_after : Registered → List Stored → ℕ → Stock → Stock
+stock_after r fresh now stock = record { vary = stock.vary; as_of = age_at now; pairs = pairs_after r fresh stock.pairs }
 
 -- ---- the text of a store
 

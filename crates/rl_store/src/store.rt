@@ -3,17 +3,21 @@ ghost use Rattle.std.specs.Prelude.{◌≡◌, ◌<◌, ◌≤◌, ◌^◌, leng
 ghost use Rattle.std.specs.List.Sorted.{IsStrictlySortedBy};
 ghost use Rattle.std.specs.Ordering.{nat_cmp};
 ghost use Rattle.std.specs.Cmp.Lexicographic.{slice_cmp};
+ghost use Rattle.rl_names.specs.Name.{key_text};
 ghost use Rattle.rl_book_spec.specs.Opening.{part_name};
 ghost use Rattle.rl_book_spec.specs.declared.Stored.{Stored};
-ghost use Rattle.rl_names.specs.Name.{key_text};
-ghost use Rattle.rl_store.specs.Stock.{keys_of, pair_of, pair_under, nothing_for, is_fresh, note_of, fitted, stock_text};
+ghost use Rattle.rl_store.specs.Stock.{keys_of, pair_of, pair_under, nothing_for, is_fresh, note_of, fitted, stock_text, stock_after, AreOrdered};
+ghost use Rattle.rl_store.specs.Merging.{HaveDistinctKeys};
+ghost use Rattle.rl_book_spec.specs.Laws.{IsOfKey};
+ghost use Rattle.std.specs.List.{AllByRecursion};
 
 use crate::copying::copy_pairs;
-use crate::keys::compare;
+use crate::merging::{age_at, merged, place_of, prepare};
 use crate::note::Note;
 use crate::writing::write;
 use rl_book_spec::Stored;
-use rl_names::{Key, NoMemory, Text, Version};
+use rl_names::{Key, Name, NoMemory, Text, Version};
+use rl_registry::Registry;
 use std::alloc::Global;
 use std::marker::Model;
 use std::str;
@@ -51,6 +55,14 @@ pub struct Turned {
     pub store: Store,
 }
 
+/// A store and new pairs that are handed back where memory ran out.
+#[derive(Drop)]
+pub struct AfterTurned {
+    pub why: NoMemory,
+    pub store: Store,
+    pub fresh: Vec<Stored>,
+}
+
 /// A copy of a vary text.
 fn vary_text(alloc: Global, vary: &[u8]) -> Result<Text, NoMemory>
     requires { IsUtf8 vary.now }
@@ -62,23 +74,12 @@ fn vary_text(alloc: Global, vary: &[u8]) -> Result<Text, NoMemory>
     Text::of(alloc, text)
 }
 
-/// The place of the pair under the key of a name and a version, among pairs in byte order of their key texts.
-fn place_of(pairs: &[Stored], name: &[u8], version: &Version) -> Option<usize>
-    requires { IsStrictlySortedBy (slice_cmp nat_cmp) (keys_of pairs.now) }
-    ensures found { option_and_then (slice_get pairs.now) result ≡ pair_under (key_text name.now version.now) pairs.now }
-    ensures within { IfSome result (λ at. at < length pairs.now) }
-{
-    pairs
-        .binary_search_by(|stored| compare(&stored.key, name, version))
-        .ok()
-}
-
 /// The pair under a key, among pairs in byte order of their key texts.
 fn find<'a>(pairs: &'a [Stored], key: &Key) -> Option<&'a Stored>
     requires { IsStrictlySortedBy (slice_cmp nat_cmp) (keys_of pairs.now) }
     ensures { option_map (λ stored. stored.now) result ≡ pair_of key.now pairs.now }
 {
-    let at = place_of(pairs, key.name.as_bytes(), &key.version)?;
+    let at = place_of(pairs, &key.name, &key.version)?;
     Some(&pairs[at])
 }
 
@@ -115,7 +116,7 @@ impl Store {
 
     /// The number of the pair under the key of a name and a version, whose part has that name. It is found in so many
     /// comparisons as the logarithm of their count.
-    pub fn place(&self, name: &[u8], version: &Version) -> Option<u32>
+    pub fn place(&self, name: &Name, version: &Version) -> Option<u32>
         ensures found { option_and_then (slice_get self.now.pairs) result ≡ pair_under (key_text name.now version.now) self.now.pairs }
         ensures within { IfSome result (λ at. at < length self.now.pairs) }
         ensures named { (stored : Stored) → pair_under (key_text name.now version.now) self.now.pairs ≡ Some stored → part_name stored.part ≡ name.now }
@@ -192,5 +193,40 @@ impl Store {
             Ok(store) => Ok(Opened { store, note }),
             Err(why) => Err(Turned { why, store: self }),
         }
+    }
+
+    /// The store at the close of a view: these new pairs, and of the older ones those under the key of
+    /// a row that no new one replaces. All are moved. Where memory runs out, or where they would be
+    /// 2^32 or more, the store and the new pairs are handed back.
+    pub fn after(
+        self,
+        registry: &Registry,
+        mut fresh: Vec<Stored>,
+        now: u64,
+    ) -> Result<Store, AfterTurned>
+        requires distinct { HaveDistinctKeys fresh.items }
+        requires parts { AllByRecursion IsOfKey fresh.items }
+        requires ordered { AreOrdered fresh.items }
+        requires moment { now < 10 ^ 18 }
+        ensures store { IfOk result (λ store. store ≡ stock_after registry.now fresh.items now self) }
+        ensures handed_back { IfErr result (λ turned. (turned.store ≡ self) × (turned.fresh.items ≡ fresh.items)) }
+    {
+        let marks = match prepare(self.alloc, registry, &self.pairs, &mut fresh) {
+            Ok(marks) => marks,
+            Err(why) => {
+                return Err(AfterTurned {
+                    why,
+                    store: self,
+                    fresh,
+                });
+            }
+        };
+        let pairs = merged(self.pairs, marks, fresh);
+        Ok(Store {
+            alloc: self.alloc,
+            vary: self.vary,
+            as_of: age_at(now),
+            pairs,
+        })
     }
 }
