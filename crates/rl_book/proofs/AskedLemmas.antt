@@ -8,7 +8,7 @@ use Rattle.std.proofs.lemmas.Bool.{and_parts, not-true, or_parts}
 use Rattle.std.proofs.lemmas.List.Elements.{All-filter, Contains-get_or}
 use Rattle.std.proofs.lemmas.List.Kept.{AllPairs-filter}
 use Rattle.rl_names.specs.declared.row.Row.{Row}
-use Rattle.rl_view_spec.specs.Closure.{Text, Registered, closure_rows, has_feature, in_closures, is_skipped}
+use Rattle.rl_view_spec.specs.Closure.{Text, Registered, has_feature, in_closures, is_skipped}
 use Rattle.rl_view_spec.specs.Keys.{version_of}
 use Rattle.rl_view_spec.specs.Numbers.{closure_numbers}
 use Rattle.rl_view_spec.specs.Progress.{Progress, is_skipped_at, is_touched_at, name_at, row_numbers}

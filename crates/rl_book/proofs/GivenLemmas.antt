@@ -1,11 +1,9 @@
 -- The part that a row executes.
-use Rattle.std.proofs.Common.{◌≡◌, ℕ, List, [], ◌∷◌, Bool, true, false, ◌&&◌, Option, Some, None, refl, ap, ap₂, sym, subst, ◌∙◌}
+use Rattle.std.proofs.Common.{◌≡◌, ℕ, List, [], ◌∷◌, Bool, true, false, ◌&&◌, Option, Some, None, refl, ap, ap₂, sym, ◌∙◌}
 use Rattle.std.specs.Prelude.{bytes_eq, if◌then◌else◌, is_none, is_some, option_and_then, option_map, Result, Ok, Err}
-use Rattle.std.specs.Option.{option_or}
 use Rattle.rl_names.specs.declared.row.Row.{Row}
 use Rattle.rl_view_spec.specs.Closure.{Text, row_of}
 use Rattle.rl_view_spec.specs.Progress.{HasDistinctNames, name_at}
-use Rattle.rl_view_spec.specs.Rows.{is_private}
 use Rattle.rl_view_spec.specs.View.{Answer, Implementation, Missing, Failed, GivenUp, is_implementation}
 use Rattle.rl_view_spec.proofs.ChainsLemmas.{same}
 use Rattle.rl_view_spec.proofs.ToolsLemmas.{found_place}
@@ -14,12 +12,11 @@ use Rattle.rl_wire.specs.declared.part.Part.{Part}
 use Rattle.rl_wire.specs.declared.part.Part.TheVariants.{Impl}
 use Rattle.rl_book_spec.specs.Given.{given_at_touch, given_by, given_in, given_to, outcome_of}
 use Rattle.rl_book_spec.specs.Kept.{Booked}
-use Rattle.rl_book_spec.specs.Opening.{Opening, answer_of, part_name, part_of, stored_of}
+use Rattle.rl_book_spec.specs.Opening.{Opening, answer_of, part_name, part_of}
 use Rattle.rl_book_spec.specs.declared.Call.{Call}
 use Rattle.rl_book_spec.specs.declared.Call.TheVariants.{Using, Load, Take, Deliver, Lose}
 use Rattle.rl_book_spec.specs.declared.Origin.{Origin}
 use Rattle.rl_book_spec.specs.declared.Origin.TheVariants as origin
-use Rattle.rl_book_spec.specs.declared.Stored.{Stored}
 use Rattle.rl_book_spec.proofs.GivenLemmas.{given_outcome}
 use Rattle.rl_book.specs.Calls.{Executing, IsRun}
 use Rattle.rl_book.specs.Held.{AreNamed}

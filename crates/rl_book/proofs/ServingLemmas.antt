@@ -1,21 +1,18 @@
 -- A call that is noted while nothing is due.
-use Rattle.std.proofs.Common.{◌≡◌, ℕ, ◌+◌, ◌<◌, ◌≤◌, ◌^◌, List, [], ◌∷◌, ◌++◌, Bool, true, false, Global, Option, Some, None, length, map, refl, ap, sym, subst}
+use Rattle.std.proofs.Common.{◌≡◌, ℕ, ◌+◌, ◌<◌, ◌≤◌, ◌^◌, List, [], ◌∷◌, ◌++◌, Bool, true, false, Global, Option, Some, None, length, refl, ap, sym, subst}
 use Rattle.std.proofs.Common.{◌∙◌, inl, inr, arith, length-append}
 use Rattle.std.specs.declared.vec.Vec.{Vec}
 use Rattle.std.specs.Prelude.{is_some, vec_capacity, Ok, Err}
 use Rattle.rl_names.specs.declared.name.Key.{Key}
-use Rattle.rl_names.specs.declared.row.Row.{Row}
-use Rattle.rl_view_spec.specs.Closure.{Text, Registered, refusal_of}
+use Rattle.rl_view_spec.specs.Closure.{Text, refusal_of}
 use Rattle.rl_view_spec.specs.Numbers.{closure_numbers}
 use Rattle.rl_view_spec.specs.Progress.{Progress}
 use Rattle.rl_view_spec.specs.View.{View, Event, log_of}
-use Rattle.rl_view.specs.Seen.{HasSeen, versioned}
-use Rattle.rl_view.proofs.ReadingsLemmas.{refusal_seen, registered_seen}
-use Rattle.rl_wire.specs.declared.part.Part.{Part}
+use Rattle.rl_view.specs.Seen.{HasSeen}
+use Rattle.rl_view.proofs.ReadingsLemmas.{refusal_seen}
 use Rattle.rl_batch.specs.Requests.{open_count}
 use Rattle.rl_book_spec.specs.Book.{event_of}
 use Rattle.rl_book_spec.specs.Kept.{Booked, events_in, is_due, rows_run, threw_in, view_in}
-use Rattle.rl_book_spec.specs.Opening.{part_of}
 use Rattle.rl_book_spec.specs.Traffic.{Traffic, traffic_after}
 use Rattle.rl_book_spec.specs.declared.Call.{Call}
 use Rattle.rl_book_spec.specs.declared.Call.TheVariants.{Using}

@@ -1,5 +1,5 @@
 -- What a request changes of what a view keeps.
-use Rattle.std.specs.Prelude.{◌≡◌, ◌&&◌, ℕ, List, Bool, filter, fold, if◌then◌else◌, is_none, not, option_and_then, option_map, slice_get}
+use Rattle.std.specs.Prelude.{◌&&◌, ℕ, List, Bool, filter, fold, if◌then◌else◌, is_none, not, option_and_then, option_map, slice_get}
 use Rattle.std.specs.Prelude.{Option, Some, None}
 use Rattle.rl_names.specs.declared.row.Group.{Group}
 use Rattle.rl_view_spec.specs.Closure.{Registered}

@@ -4,8 +4,8 @@ ghost use Rattle.rl_view_spec.specs.Rows.{AreRegistrable};
 ghost use Rattle.rl_book.specs.Opens.{IsReady, Opens};
 ghost use Rattle.rl_book.specs.Reads.{SaysParts, SaysRows};
 
-use crate::error::OpenError;
 use crate::answer::Run;
+use crate::error::OpenError;
 use crate::given::{Delivered, none_delivered};
 use crate::held::{Place, places_held};
 use rl_book_spec::Plan;

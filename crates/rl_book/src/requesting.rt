@@ -17,12 +17,7 @@ use std::alloc::Global;
 use std::slice;
 
 /// Those of the rows that are to be asked for.
-fn left_of(
-    alloc: Global,
-    table: &Table,
-    held: &Held,
-    rows: &[u32],
-) -> Result<Vec<u32>, NoMemory>
+fn left_of(alloc: Global, table: &Table, held: &Held, rows: &[u32]) -> Result<Vec<u32>, NoMemory>
     requires within { All (λ row. row < length table.now.registered.rows) rows.now }
     ensures { IfOk result (λ left. left.items ≡ left_of held.now.gifts table.now rows.now) }
 {
@@ -134,14 +129,7 @@ pub(crate) fn load(
     if dropped > 0xFFFF_FFFF {
         return Err(NoMemory);
     }
-    match request(
-        alloc,
-        table,
-        requests,
-        plan,
-        held,
-        asked.as_slice(),
-    ) {
+    match request(alloc, table, requests, plan, held, asked.as_slice()) {
         Ok(()) => Ok(dropped as u32),
         Err(ResolveError::Unknown { .. }) => unreachable!(),
         Err(ResolveError::Cycle { .. }) => unreachable!(),

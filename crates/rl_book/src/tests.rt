@@ -8,6 +8,7 @@ use crate::{DeliverError, LoseRefusal, Lost, Mark, OpenError, Plan, Took, Visit}
 use rl_base::Hears;
 use rl_names::{Blob, Key, NoMemory, Only, Query, Seq, Text};
 use rl_states::Phase;
+use rl_store::Store;
 use std::alloc::Global;
 use std::slice;
 use std::test::Fail;
@@ -44,7 +45,11 @@ fn open(alloc: Global, rows: &str, embedded: &str) -> Result<Result<Visit, OpenE
     let startup = format!(in alloc;
         "mw.loader.addSource({{\"local\":\"/load.php\"}});\nmw.loader.register([{rows}]);\n"
     )?;
-    Ok(Visit::open(alloc, startup.as_bytes(), plan(alloc, embedded)?))
+    let store = Store::empty(alloc, b"vector|1|en")?;
+    match Visit::open(alloc, startup.as_bytes(), plan(alloc, embedded)?, store) {
+        Ok(visit) => Ok(Ok(visit)),
+        Err(turned) => Ok(Err(turned.why)),
+    }
 }
 
 /// What is told of a view that does not open.

@@ -61,12 +61,7 @@ fn is_private(registry: &Registry, row: u32) -> bool
 }
 
 /// Gives a row what it is given at once, or an error where it is private, if that counts.
-fn give_row<L: Ledger>(
-    table: &mut Table,
-    held: &Held,
-    row: u32,
-    steps: &mut Steps<L>,
-)
+fn give_row<L: Ledger>(table: &mut Table, held: &Held, row: u32, steps: &mut Steps<L>)
     requires within { row < length table.old.registered.rows }
     requires idle { table.old.executing ≡ None }
     ensures { table.new ≡ after_held held.now.gifts table.old row }
@@ -85,12 +80,7 @@ fn give_row<L: Ledger>(
 }
 
 /// Gives each of these rows what it is given at once, or an error where it is private, if that counts.
-fn give_rows<L: Ledger>(
-    table: &mut Table,
-    held: &Held,
-    rows: &[u32],
-    blank: Blank,
-)
+fn give_rows<L: Ledger>(table: &mut Table, held: &Held, rows: &[u32], blank: Blank)
     requires name { blank.name ≡ L.name }
     requires parts { blank.parts ≡ L.parts }
     requires some { 0 < L.parts }

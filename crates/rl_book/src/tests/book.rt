@@ -4,6 +4,7 @@ use crate::{Book, DeliverError, Lost, Mark, Took, Turned};
 use rl_base::{Observer, Recorder};
 use rl_names::{Name, Text};
 use rl_states::Phase;
+use rl_store::Store;
 use std::alloc::Global;
 use std::slice;
 use std::test::Fail;
@@ -30,7 +31,14 @@ fn opens(
         "mw.loader.addSource({{\"local\":\"/load.php\"}});\nmw.loader.register([{rows}]);\n"
     )?;
     let observers = recorders(alloc, names)?;
-    Ok(Book::open(alloc, startup.as_bytes(), plan(alloc, embedded)?, observers))
+    let store = Store::empty(alloc, b"vector|1|en")?;
+    Ok(Book::open(
+        alloc,
+        startup.as_bytes(),
+        plan(alloc, embedded)?,
+        store,
+        observers,
+    ))
 }
 
 fn opened(alloc: Global, rows: &str, embedded: &str, names: &[&str]) -> Result<Book, Fail> {

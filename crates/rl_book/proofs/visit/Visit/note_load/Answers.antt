@@ -1,9 +1,7 @@
-use Rattle.std.proofs.Common.{◌++◌, ◌∷◌, [], ℕ, List, Option, length, refl, ap, ap₂, sym, subst, ◌∙◌, arith}
+use Rattle.std.proofs.Common.{◌++◌, ◌∷◌, [], List, length, refl, ap, ap₂, ◌∙◌, arith}
 use Rattle.rl_view_spec.specs.Closure.{Text}
-use Rattle.rl_wire.specs.declared.part.Part.{Part}
 use Rattle.rl_book_spec.specs.declared.Call.{Call}
 use Rattle.rl_book_spec.specs.declared.Call.TheVariants.{Load}
-use Rattle.rl_book.specs.Asking.{Loads}
 use Rattle.rl_book.proofs.CallsLemmas.{note_is}
 use Rattle.rl_book.proofs.LoadingLemmas.{dropped_here, load_kept}
 use Rattle.rl_book.proofs.NotedLemmas.{still_kept}
@@ -34,8 +32,7 @@ invariant_of-self-2 c =
 
 pub returns : goal.returns
 returns c =
-    let names : List Text = c.args.names.now in
-    (
+    let names : List Text = c.args.names.now in (
       dropped_here c.self.inside c.args.self.now c.self.invariant c.self.view_is c.requires names c.in_ok-dropped.dropped c.load.new.table
           c.load.new.requests c.in_ok-dropped.ensures.ok,
       note_is c.self.inside c.args.self.now (Load names) c.push_reserved.new.self.items c.self.view_is

@@ -1,12 +1,9 @@
-use Rattle.std.proofs.Common.{◌++◌, ◌∷◌, [], ℕ, List, Option, length, refl, ap, ap₂, sym, subst, ◌∙◌, arith}
+use Rattle.std.proofs.Common.{◌++◌, ◌∷◌, [], List, length, refl, ap, ap₂, sym, ◌∙◌, arith}
 use Rattle.std.specs.Prelude.{reverse}
 use Rattle.rl_view_spec.specs.Closure.{Text, Cycle, Unknown}
-use Rattle.rl_view_spec.specs.Numbers.{closure_numbers}
 use Rattle.rl_registry.specs.Answered.{refusal_told}
-use Rattle.rl_wire.specs.declared.part.Part.{Part}
 use Rattle.rl_book_spec.specs.declared.Call.{Call}
 use Rattle.rl_book_spec.specs.declared.Call.TheVariants.{Using}
-use Rattle.rl_book.specs.Asking.{Touched}
 use Rattle.rl_book.specs.Kept.{booked}
 use Rattle.rl_book.proofs.CallsLemmas.{note_is}
 use Rattle.rl_book.proofs.NotedLemmas.{still_kept}
