@@ -12,6 +12,7 @@ use anyhow::{Result, bail};
 use rl_base::Hears;
 use rl_book::{Mark, Plan, Visit};
 use rl_names::{Blob, Key, NoMemory, Only, Query, Seq, Text};
+use rl_store::Store;
 use std::alloc::Global;
 use std::{env, fs};
 
@@ -63,9 +64,13 @@ impl Hears for Nobody {
     }
 }
 
-/// A view over a startup text.
+/// A view over a startup text and an empty store.
 fn opened(alloc: Global, startup: &[u8]) -> Result<Visit> {
-    Ok(Visit::open(alloc, startup, plan(alloc)?)?)
+    let store = Store::empty(alloc, b"vector|1|en")?;
+    match Visit::open(alloc, startup, plan(alloc)?, store) {
+        Ok(visit) => Ok(visit),
+        Err(turned) => bail!("the view does not open: {}", turned.why),
+    }
 }
 
 /// The names of all rows.
