@@ -1,5 +1,6 @@
 """What the benchmarks share: where the built program is, and how a run of it is measured."""
 import os
+import resource
 import subprocess
 import sys
 import tempfile
@@ -26,6 +27,18 @@ def run(words, folder, repeats=3, program=PROGRAM):
         best = spent if best is None else min(best, spent)
         length, status = len(done.stdout), done.returncode
     return best, peak_memory(words, folder, program), length, status
+
+
+def processor(words, folder, repeats=7, program=PROGRAM):
+    """Runs the program, or another one. Gives the least time of the processor in seconds, and what the last run printed."""
+    best, printed = None, b""
+    for _ in range(repeats):
+        before = resource.getrusage(resource.RUSAGE_CHILDREN)
+        done = subprocess.run([program, *words], cwd=folder, stdout=subprocess.PIPE, stderr=subprocess.DEVNULL)
+        after = resource.getrusage(resource.RUSAGE_CHILDREN)
+        spent = after.ru_utime - before.ru_utime + after.ru_stime - before.ru_stime
+        best, printed = spent if best is None else min(best, spent), done.stdout
+    return best, printed
 
 
 def peak_memory(words, folder, program):

@@ -3,6 +3,8 @@ ghost use Rattle.std.specs.Prelude.{IfOk};
 ghost use Rattle.rl_batch.specs.Given.{IsBase};
 
 mod book;
+mod due;
+mod page;
 
 use crate::{DeliverError, LoseRefusal, Lost, Mark, OpenError, Plan, Took, Visit};
 use rl_base::Hears;

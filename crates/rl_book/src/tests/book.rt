@@ -21,7 +21,7 @@ fn recorders(alloc: Global, names: &[&str]) -> Result<Vec<Box<dyn Observer + Sen
 }
 
 /// What opening a view over these rows and this embedded text gives, for recorders that throw for these names.
-fn opens(
+pub(super) fn opens(
     alloc: Global,
     rows: &str,
     embedded: &str,
@@ -41,7 +41,12 @@ fn opens(
     ))
 }
 
-fn opened(alloc: Global, rows: &str, embedded: &str, names: &[&str]) -> Result<Book, Fail> {
+pub(super) fn opened(
+    alloc: Global,
+    rows: &str,
+    embedded: &str,
+    names: &[&str],
+) -> Result<Book, Fail> {
     match opens(alloc, rows, embedded, names)? {
         Ok(book) => Ok(book),
         Err(_turned) => Err("a view")?,
@@ -68,7 +73,7 @@ fn requests(book: &mut Book, name: Text) -> bool {
 }
 
 /// Whether a batch is asked for.
-fn asks(book: &mut Book) -> bool {
+pub(super) fn asks(book: &mut Book) -> bool {
     match book.take() {
         Ok(ask) => ask.is_some(),
         Err(_error) => false,
@@ -76,7 +81,12 @@ fn asks(book: &mut Book) -> bool {
 }
 
 /// Whether a delivery is answered so.
-fn answers(book: &mut Book, ask: u32, bytes: &str, want: Result<Took, DeliverError>) -> bool {
+pub(super) fn answers(
+    book: &mut Book,
+    ask: u32,
+    bytes: &str,
+    want: Result<Took, DeliverError>,
+) -> bool {
     book.deliver(ask, bytes.as_bytes(), Mark { link: 0, answer: 7 }) == want
 }
 
@@ -89,7 +99,7 @@ fn takes_each(book: &mut Book, texts: &[&str]) -> bool {
     all
 }
 
-fn state(book: &Book, name: &str) -> Option<Phase> {
+pub(super) fn state(book: &Book, name: &str) -> Option<Phase> {
     book.state_of(name.as_bytes())
 }
 
