@@ -1,0 +1,4 @@
+pub mod Replay
+pub mod Replies
+pub mod Session
+pub mod Summary
