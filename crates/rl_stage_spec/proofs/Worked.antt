@@ -12,6 +12,7 @@ use Rattle.std.specs.Str.Lossy.{utf8_lossy, utf8_valid_len}
 use Rattle.rl_names.specs.Hash.{hash_5, version_of_hash}
 use Rattle.rl_defs.specs.Catalogue.{Catalogue}
 use Rattle.rl_defs.specs.declared.language.Language.{Language}
+use Rattle.rl_defs.specs.declared.module_def.ModuleDef.{ModuleDef}
 use Rattle.rl_build.specs.BuiltIn.{built_ins}
 use Rattle.rl_startup.specs.Registry.{all_rows, start_of}
 use Rattle.rl_view_spec.specs.Closure.{Text}
@@ -19,17 +20,39 @@ use Rattle.rl_view_spec.specs.Keys.{never}
 use Rattle.rl_script_spec.specs.Output.{line}
 use Rattle.rl_steps.specs.declared.step.Step.{Step}
 use Rattle.rl_steps.specs.declared.step.Step.TheVariants.{Edit, Choice, Clock, View, Using, Load, Take, Serve, Deliver, Lose, Close, Embed}
-use Rattle.rl_stage_spec.specs.Replay.{output_of, played}
+use Rattle.rl_stage_spec.specs.Replay.{all_ready, output_of}
+
+abbrev language : Text → List Text → Language
+language code fallback = record { code = code; fallback = fallback; rtl = false }
+
+abbrev a_module : Text → Text → List Text → ModuleDef
+a_module name group scripts = record {
+  name = name;
+  scripts = scripts;
+  debug_scripts = [];
+  styles = [];
+  language_scripts = [];
+  skin_scripts = [];
+  skin_styles = [];
+  rtl = [];
+  dependencies = [];
+  messages = [];
+  group = group;
+  source = codes "local";
+  skip = None;
+}
 
 abbrev tiny : Catalogue
 tiny = record {
   admins = codes "Root" ∷ [];
   skins = codes "vector" ∷ [];
-  languages = record { code = codes "en"; fallback = []; rtl = false } ∷ [];
+  languages = language (codes "de") [] ∷ language (codes "de-at") (codes "de" ∷ []) ∷ language (codes "en") [] ∷ [];
   limit = 2000;
   store_version = 1;
-  files = [];
-  modules = [];
+  files = record { name = codes "a.js"; text = codes "a()" } ∷ record { name = codes "b.js"; text = codes "b()" } ∷ [];
+  modules =
+      a_module (codes "a") [] (codes "a.js" ∷ []) ∷ a_module (codes "b") (codes "late") (codes "b.js" ∷ [])
+      ∷ a_module (codes "m") [] [] ∷ a_module (codes "p") (codes "private") (codes "a.js" ∷ []) ∷ [];
 }
 
 -- ---- a page is edited between take and serve: what was served runs and is stored, under the version that was served
@@ -53,7 +76,7 @@ edited_between = reverse (
 
 edit_between_take_and_serve :
     output_of never tiny edited_between
-    ≡ line (codes "revision 1") ++ line (codes "view 0 rows 5") ++ line (codes "using ok")
+    ≡ line (codes "revision 1") ++ line (codes "view 0 rows 9") ++ line (codes "using ok")
     ++ line (codes "ask 0 local lang=en&modules=site&skin=vector&version=" ++ hash_5 version_one)
     ++ line (codes "ask 1 local lang=en&modules=site.styles&skin=vector&version=" ++ hash_5 version_none)
     ++ line (codes "revision 2") ++ line (codes "wire 0") ++ line (codes "wire 1")
@@ -65,3 +88,85 @@ edit_between_take_and_serve :
     ++ line (codes "store site.styles@" ++ version_none) ++ line (codes "store site@" ++ version_two)
 unfolding version_of_hash digits byte_serialize percent_encode_byte is_utf8 chars encode serde_json_on_literals form_urlencoded_on_literals utf8_lossy utf8_valid_len start_of all_rows built_ins
 edit_between_take_and_serve = refl
+
+-- ---- an answer that comes twice counts once, and an ask that is lost three times is given up
+
+abbrev version_a : Text
+version_a = hash_5 (codes "[\"a()\\n\",{},{}]")
+
+abbrev version_b : Text
+version_b = hash_5 (codes "[\"b()\\n\",{},{}]")
+
+abbrev ask_b : Text → Text
+ask_b number = line (codes "ask " ++ number ++ codes " local lang=en&modules=b&skin=vector&version=" ++ hash_5 version_b)
+
+abbrev lost : List Step
+lost = reverse (
+    View [] (codes "en") (codes "vector") false [] ∷ Using (codes "a" ∷ codes "b" ∷ []) ∷ Take ∷ Serve 0 ∷ Deliver 0 ∷ Deliver 0
+    ∷ Take ∷ Serve 1 ∷ Lose 1 ∷ Take ∷ Lose 2 ∷ Take ∷ Lose 3 ∷ Deliver 1 ∷ [])
+
+repeat_and_give_up :
+    output_of never tiny lost
+    ≡ line (codes "view 0 rows 9") ++ line (codes "using ok")
+    ++ line (codes "ask 0 local lang=en&modules=a&skin=vector&version=" ++ hash_5 version_a) ++ line (codes "wire 0")
+    ++ line (codes "took 1 passed 0") ++ line (codes "ran a@" ++ version_a ++ codes " 4") ++ line (codes "took 0 passed 1")
+    ++ ask_b (codes "1") ++ line (codes "wire 1") ++ line (codes "again 1") ++ ask_b (codes "2") ++ line (codes "again 2") ++ ask_b (codes "3")
+    ++ line (codes "given up") ++ line (codes "took 0 passed 1")
+    ++ line (codes "summary") ++ line (codes "view 0") ++ line (codes "ready a@" ++ version_a) ++ line (codes "error b@" ++ version_b)
+    ++ line (codes "executed a@" ++ version_a ++ codes " 4") ++ line (codes "store a@" ++ version_a)
+unfolding version_of_hash digits byte_serialize percent_encode_byte is_utf8 chars encode serde_json_on_literals form_urlencoded_on_literals utf8_lossy utf8_valid_len start_of all_rows built_ins
+repeat_and_give_up = refl
+
+not_all_ready : all_ready never tiny lost ≡ false
+unfolding version_of_hash digits byte_serialize percent_encode_byte is_utf8 chars encode serde_json_on_literals form_urlencoded_on_literals utf8_lossy utf8_valid_len start_of all_rows built_ins
+not_all_ready = refl
+
+-- ---- two users, one store: what is everybody's is taken from the store, and what is a user's own is asked for
+
+abbrev site_version : Text
+site_version = hash_5 (codes "[\"s()\\n\",{},{}]")
+
+abbrev version_of_ann : Text
+version_of_ann = hash_5 (codes "[\"ann()\\n\",{},{}]")
+
+abbrev version_of_ben : Text
+version_of_ben = hash_5 (codes "[\"ben()\\n\",{},{}]")
+
+abbrev uses : Text → List Step
+uses user = View user (codes "en") (codes "vector") false [] ∷ Using (codes "site" ∷ codes "user" ∷ []) ∷ []
+
+abbrev two_users : List Step
+two_users = reverse (
+    Edit (codes "Root") (codes "MediaWiki:Common.js") 0 (codes "s()") ∷ Edit (codes "Ann") (codes "User:Ann/common.js") 0 (codes "ann()")
+    ∷ Edit (codes "Ben") (codes "User:Ben/common.js") 0 (codes "ben()") ∷ []
+    ++ uses (codes "Ann") ++ Take ∷ Take ∷ Take ∷ Serve 0 ∷ Serve 1 ∷ Serve 2 ∷ Deliver 0 ∷ Deliver 1 ∷ Deliver 2 ∷ []
+    ++ uses (codes "Ben") ++ Take ∷ Take ∷ Serve 3 ∷ Deliver 3 ∷ Deliver 0 ∷ [])
+
+abbrev told_of : Text → Text → Text
+told_of number version =
+    line (codes "view " ++ number) ++ line (codes "ready site@" ++ site_version) ++ line (codes "ready site.styles@" ++ version_none)
+    ++ line (codes "ready user@" ++ version) ++ line (codes "executed site@" ++ site_version ++ codes " 4")
+    ++ line (codes "executed site.styles@" ++ version_none ++ codes " 0") ++ line (codes "executed user@" ++ version ++ codes " 6")
+    ++ line (codes "store site.styles@" ++ version_none) ++ line (codes "store site@" ++ site_version)
+
+two_users_one_store :
+    output_of never tiny two_users
+    ≡ line (codes "revision 1") ++ line (codes "revision 2") ++ line (codes "revision 3") ++ line (codes "view 0 rows 9") ++ line (codes "using ok")
+    ++ line (codes "ask 0 local lang=en&modules=site&skin=vector&version=" ++ hash_5 site_version)
+    ++ line (codes "ask 1 local lang=en&modules=user&skin=vector&user=Ann&version=" ++ hash_5 version_of_ann)
+    ++ line (codes "ask 2 local lang=en&modules=site.styles&skin=vector&version=" ++ hash_5 version_none)
+    ++ line (codes "wire 0") ++ line (codes "wire 1") ++ line (codes "wire 2") ++ line (codes "took 1 passed 0")
+    ++ line (codes "took 1 passed 0") ++ line (codes "ran user@" ++ version_of_ann ++ codes " 6") ++ line (codes "took 1 passed 0")
+    ++ line (codes "ran site.styles@" ++ version_none ++ codes " 0") ++ line (codes "ran site@" ++ site_version ++ codes " 4")
+    ++ line (codes "view 1 rows 9") ++ line (codes "using ok")
+    ++ line (codes "ran site.styles@" ++ version_none ++ codes " 0") ++ line (codes "ran site@" ++ site_version ++ codes " 4")
+    ++ line (codes "ask 3 local lang=en&modules=user&skin=vector&user=Ben&version=" ++ hash_5 version_of_ben) ++ line (codes "take none")
+    ++ line (codes "wire 3") ++ line (codes "took 1 passed 0") ++ line (codes "ran user@" ++ version_of_ben ++ codes " 6")
+    ++ line (codes "took 0 passed 1")
+    ++ line (codes "summary") ++ told_of (codes "0") version_of_ann ++ told_of (codes "1") version_of_ben
+unfolding version_of_hash digits byte_serialize percent_encode_byte is_utf8 chars encode serde_json_on_literals form_urlencoded_on_literals utf8_lossy utf8_valid_len start_of all_rows built_ins
+two_users_one_store = refl
+
+two_users_ready : all_ready never tiny two_users ≡ true
+unfolding version_of_hash digits byte_serialize percent_encode_byte is_utf8 chars encode serde_json_on_literals form_urlencoded_on_literals utf8_lossy utf8_valid_len start_of all_rows built_ins
+two_users_ready = refl
