@@ -1,1 +1,2 @@
+pub mod ViewsLemmas
 mod Worked

@@ -1,5 +1,5 @@
 -- A session, computed on the definitions.
-use Rattle.std.proofs.Common.{◌≡◌, ℕ, List, [], ◌∷◌, ◌++◌, true, false, refl, map, Some, None, length}
+use Rattle.std.proofs.Common.{◌≡◌, List, [], ◌∷◌, ◌++◌, true, false, refl, None}
 use Rattle.std.specs.Prelude.{codes, reverse}
 use Rattle.std.specs.Fmt.{digits}
 use Rattle.std.specs.Str.{is_utf8, chars}
@@ -19,7 +19,7 @@ use Rattle.rl_view_spec.specs.Closure.{Text}
 use Rattle.rl_view_spec.specs.Keys.{never}
 use Rattle.rl_script_spec.specs.Output.{line}
 use Rattle.rl_steps.specs.declared.step.Step.{Step}
-use Rattle.rl_steps.specs.declared.step.Step.TheVariants.{Edit, Choice, Clock, View, Using, Load, Take, Serve, Deliver, Lose, Close, Embed}
+use Rattle.rl_steps.specs.declared.step.Step.TheVariants.{Edit, View, Using, Take, Serve, Deliver, Lose, Close}
 use Rattle.rl_stage_spec.specs.Replay.{all_ready, output_of}
 
 abbrev language : Text → List Text → Language

@@ -1,3 +1,4 @@
+pub mod Headline
 pub mod Replay
 pub mod Replies
 pub mod Session

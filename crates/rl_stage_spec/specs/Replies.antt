@@ -1,6 +1,6 @@
 -- What each step answers, and what is printed for it.
-use Rattle.std.specs.Prelude.{ℕ, ◌+◌, ◌==◌, ◌++◌, ◌∷◌, [], List, Bool, true, false, not, if◌then◌else◌, count_by, drop, flat_map}
-use Rattle.std.specs.Prelude.{is_none, length, nat_le, option_map, slice_get, Option, Some, None, Result, Ok, Err}
+use Rattle.std.specs.Prelude.{ℕ, ◌+◌, ◌++◌, [], List, not, if◌then◌else◌, count_by, drop, flat_map}
+use Rattle.std.specs.Prelude.{length, nat_le, slice_get, Option, Some, None, Result, Ok, Err}
 use Rattle.std.specs.Option.{option_map_or}
 use Rattle.rl_pages.specs.declared.entry.Entry.{Entry}
 use Rattle.rl_pages.specs.declared.refusals.ChoiceError.{ChoiceError}

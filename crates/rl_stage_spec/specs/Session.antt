@@ -4,7 +4,6 @@ use Rattle.std.specs.Prelude.{option_and_then, option_map, option_to_list, slice
 use Rattle.std.specs.Option.{option_map_or}
 use Rattle.rl_names.specs.declared.query.Only.TheVariants as only
 use Rattle.rl_names.specs.declared.query.Query.{Query}
-use Rattle.rl_names.specs.declared.row.Row.{Row}
 use Rattle.rl_defs.specs.Catalogue.{Catalogue}
 use Rattle.rl_pages.specs.Refusals.{checked_choice, checked_edit, name_of}
 use Rattle.rl_pages.specs.declared.entry.Entry.{Entry}

@@ -1,0 +1,205 @@
+-- What the views of a session are opened over, and what holds of them.
+use Rattle.std.proofs.Common.{◌≡◌, zero, suc, Bool, true, false, List, [], ◌∷◌, ◌++◌, map, Option, Some, None, refl, sym, ap, subst, ◌∙◌, arith}
+use Rattle.std.specs.Prelude.{if◌then◌else◌, Contains, IfSome, Result, Ok, Err, is_none, option_map, option_to_list, slice_get, ◌&&◌}
+use Rattle.std.specs.List.{AllByRecursion}
+use Rattle.std.specs.Option.{option_map_or}
+use Rattle.rl_names.specs.declared.row.Row.{Row}
+use Rattle.rl_defs.specs.Ascending.{IsAscending}
+use Rattle.rl_defs.specs.Catalogue.{Catalogue, IsCatalogue}
+use Rattle.rl_build.specs.BuiltIn.{built_ins}
+use Rattle.rl_build.specs.Sheet.{AreAllNames, all_names}
+use Rattle.rl_build.specs.Sight.{Sight, sight}
+use Rattle.rl_build.specs.declared.context.Context.{Context}
+use Rattle.rl_build.proofs.AllNamesLemmas.{ascending_all, have_sheets}
+use Rattle.rl_compact.specs.Compact.{compact_row, compacted}
+use Rattle.rl_pages.specs.declared.entry.Entry.{Entry}
+use Rattle.rl_pages.specs.declared.viewer.Viewer.{Viewer}
+use Rattle.rl_rows.proofs.RowsReadLemmas.{distinct_from_once}
+use Rattle.rl_startup.specs.Registry.{all_rows, modules_of, start_of}
+use Rattle.rl_startup.specs.Rows.{rows_of}
+use Rattle.rl_startup.proofs.FineLemmas.{once_of}
+use Rattle.rl_startup.proofs.RegistryLemmas.{names_ascend}
+use Rattle.rl_startup.proofs.RowsLemmas.{rows_are_lawful}
+use Rattle.rl_view_spec.specs.Closure.{Text, refusal_of}
+use Rattle.rl_view_spec.specs.Progress.{HasDistinctNames}
+use Rattle.rl_view_spec.specs.View.{Throws}
+use Rattle.rl_view_spec.proofs.StatesLemmas.{headline}
+use Rattle.rl_book_spec.proofs.LawfulLemmas.{books_lawful}
+use Rattle.rl_book_spec.specs.declared.Call.{Call}
+use Rattle.rl_book_spec.specs.declared.Call.TheVariants as calls
+use Rattle.rl_steps.specs.declared.step.Step.{Step}
+use Rattle.rl_steps.specs.declared.step.Step.TheVariants.{Edit, Choice, Clock, View, Using, Load, Take, Serve, Deliver, Lose, Close, Embed}
+use Rattle.rl_stage_spec.specs.Headline.{IsOver, SessionsHold, ViewsAreOver}
+use Rattle.rl_stage_spec.specs.Replies.{events_in, view_in}
+use Rattle.rl_stage_spec.specs.Session.{Asking, Ended, Session, Viewed, Wired, asking_by, choice_by, closed, delivering, edit_by, ending, first_waiting}
+use Rattle.rl_stage_spec.specs.Session.{is_current, losing, losing_by, may_lose, opened, serving, session_after, session_of, taking, using_by}
+use Rattle.rl_stage_spec.specs.Session.{with_call, with_entry}
+
+-- ---- the rows that a client starts from have distinct names
+
+module _ (c : Catalogue) (lawful : IsCatalogue c) (entries : List Entry) (viewer : Viewer) (ctx : Context) where
+  abbrev seen : Sight
+  seen = sight c entries viewer
+
+  are_all : AreAllNames seen ctx (all_names seen)
+  are_all = record {
+    ascending = ascending_all (map (λ m. m.name) c.modules) built_ins lawful.modules.ascend;
+    all = λ name. have_sheets built_ins c.modules name;
+  }
+
+  rows_ascend : IsAscending (map (λ (row : Row). row.name) (rows_of (modules_of seen ctx)))
+  rows_ascend = subst IsAscending (sym (rows_are_lawful.names (modules_of seen ctx))) (names_ascend seen ctx (all_names seen) (modules_of seen ctx) are_all refl)
+
+same_names : (all rows : List Row) → map (λ (row : Row). row.name) (map (compact_row all) rows) ≡ map (λ (row : Row). row.name) rows
+same_names all [] = refl
+same_names all (row ∷ rows) = ap (λ names. row.name ∷ names) (same_names all rows)
+
+pub start_distinct : (c : Catalogue) → IsCatalogue c → (entries : List Entry) (viewer : Viewer) (ctx : Context) (features : List Text)
+    → HasDistinctNames (record { rows = (start_of (sight c entries viewer) ctx).rows; features = features })
+unfolding start_of all_rows
+start_distinct c lawful entries viewer ctx features =
+    let rows : List Row = rows_of (modules_of (sight c entries viewer) ctx) in
+    distinct_from_once (compacted rows) (once_of (compacted rows)
+    (subst IsAscending (sym (same_names rows rows)) (rows_ascend c lawful entries viewer ctx)))
+
+-- ---- each view is opened over what the wiki has then
+
+abbrev EachOver : Catalogue → List Ended → Type 0
+EachOver c ended = AllByRecursion (λ (e : Ended). IsOver c e.view) ended
+
+abbrev OpenOver : Catalogue → Option Viewed → Type 0
+OpenOver c current = IfSome current (IsOver c)
+
+record AreOver (s : Session) : Type 0 where
+  ended : EachOver s.catalogue s.ended
+  current : OpenOver s.catalogue s.current
+
+one_more : {X : Type 0} (P : X → Type 0) (xs : List X) (x : X) → AllByRecursion P xs → P x → AllByRecursion P (xs ++ x ∷ [])
+one_more P [] x h p = (p, tt)
+one_more P (y ∷ ys) x h p = (h.0, one_more P ys x h.1 p)
+
+with_past : (c : Catalogue) (v : Viewed) (past : List Call) → IsOver c v → IsOver c (record v { past = past })
+with_past c v past h = record { rows = h.rows; embedded = h.embedded; base = h.base }
+
+called : (c : Catalogue) (call : Call) (o : Option Viewed) → OpenOver c o → OpenOver c (option_map (λ (v : Viewed). record v { past = call ∷ v.past }) o)
+called c call None h = tt
+called c call (Some v) h = with_past c v (call ∷ v.past) h
+
+over_call : (call : Call) (s : Session) → AreOver s → AreOver (with_call call s)
+over_call call s h = record { ended = h.ended; current = called s.catalogue call s.current h.current }
+
+over_if : (b : Bool) (call : Call) (s : Session) → AreOver s → AreOver (if b then with_call call s else s)
+over_if true call s h = over_call call s h
+over_if false call s h = h
+
+over_entry : {E : Type 0} (r : Result Entry E) (s : Session) → AreOver s → AreOver (with_entry r s)
+over_entry (Ok entry) s h = record { ended = h.ended; current = h.current }
+over_entry (Err refusal) s h = h
+
+over_ending : (throws : Throws) (s : Session) (o : Option Viewed) → AreOver s → OpenOver s.catalogue o → AreOver (option_map_or (ending throws s) o s)
+over_ending throws s None h k = h
+over_ending throws s (Some v) h k = record { ended = one_more (λ (e : Ended). IsOver s.catalogue e.view) s.ended _ h.ended k; current = tt }
+
+over_closed : (throws : Throws) (s : Session) → AreOver s → AreOver (closed throws s)
+over_closed throws s h = over_ending throws s s.current h h.current
+
+over_opened : (viewer : Viewer) (ctx : Context) (features : List Text) (s : Session) → AreOver s → AreOver (opened viewer ctx features s)
+over_opened viewer ctx features s h = record { ended = h.ended; current = record { rows = refl; embedded = refl; base = refl } }
+
+over_chosen : {X : Type 0} (f : X → Session) (s : Session) (o : Option X) → AreOver s → ((x : X) → AreOver (f x)) → AreOver (option_map_or f o s)
+over_chosen f s None h k = h
+over_chosen f s (Some x) h k = k x
+
+over_asks : (s : Session) (asks : List Asking) → AreOver s → AreOver (record s { asks = asks })
+over_asks s asks h = record { ended = h.ended; current = h.current }
+
+over_after : (throws : Throws) (s : Session) (step : Step) → AreOver s → AreOver (session_after throws s step)
+over_after throws s (Edit by title base text) h = over_entry (edit_by s by title base text) s h
+over_after throws s (Choice user key value) h = over_entry (choice_by s user key value) s h
+over_after throws s (Clock now) h = record { ended = h.ended; current = h.current }
+over_after throws s (View user lang skin debug features) h = over_opened _ _ features (closed throws s) (over_closed throws s h)
+over_after throws s (Using names) h =
+    over_chosen (using_by names s) s s.current h (λ (v : Viewed). over_if (is_none (refusal_of v.opening.registered names)) (calls.Using names) s h)
+over_after throws s (Load names) h = over_call (calls.Load names) s h
+over_after throws s Take h =
+    over_chosen (taking s) s s.current h
+    (λ (v : Viewed). over_call calls.Take _ (over_asks s (s.asks ++ option_to_list (option_map (asking_by s v) (first_waiting v))) h))
+over_after throws s (Serve ask) h =
+    over_chosen (serving s) s (slice_get s.asks ask) h (λ (a : Asking). record { ended = h.ended; current = h.current })
+over_after throws s (Deliver wire) h =
+    over_chosen (delivering wire s) s (slice_get s.wires wire) h (λ (w : Wired). over_if (is_current s w.ask) _ s h)
+over_after throws s (Lose ask) h =
+    over_chosen (losing s) s (slice_get s.asks ask) h
+    (λ (a : Asking). over_chosen (losing_by s a) s s.current h (λ (v : Viewed). over_if (is_current s a && may_lose v a) _ s h))
+over_after throws s Close h = over_closed throws s h
+over_after throws s (Embed text) h = h
+
+over_session : (throws : Throws) (c : Catalogue) (past : List Step) → AreOver (session_of throws c past)
+over_session throws c [] = record { ended = tt; current = tt }
+over_session throws c (step ∷ past) = over_after throws (session_of throws c past) step (over_session throws c past)
+
+-- ---- the definitions stay as they are
+
+same_if : (b : Bool) (call : Call) (s : Session) → (if b then with_call call s else s).catalogue ≡ s.catalogue
+same_if true call s = refl
+same_if false call s = refl
+
+same_chosen : {X : Type 0} (f : X → Session) (s : Session) (o : Option X) → ((x : X) → (f x).catalogue ≡ s.catalogue)
+    → (option_map_or f o s).catalogue ≡ s.catalogue
+same_chosen f s None k = refl
+same_chosen f s (Some x) k = k x
+
+same_entry : {E : Type 0} (r : Result Entry E) (s : Session) → (with_entry r s).catalogue ≡ s.catalogue
+same_entry (Ok entry) s = refl
+same_entry (Err refusal) s = refl
+
+same_closed : (throws : Throws) (s : Session) → (closed throws s).catalogue ≡ s.catalogue
+same_closed throws s = same_chosen (ending throws s) s s.current (λ (v : Viewed). refl)
+
+same_after : (throws : Throws) (s : Session) (step : Step) → (session_after throws s step).catalogue ≡ s.catalogue
+same_after throws s (Edit by title base text) = same_entry (edit_by s by title base text) s
+same_after throws s (Choice user key value) = same_entry (choice_by s user key value) s
+same_after throws s (Clock now) = refl
+same_after throws s (View user lang skin debug features) = same_closed throws s
+same_after throws s (Using names) =
+    same_chosen (using_by names s) s s.current (λ (v : Viewed). same_if (is_none (refusal_of v.opening.registered names)) (calls.Using names) s)
+same_after throws s (Load names) = refl
+same_after throws s Take = same_chosen (taking s) s s.current (λ (v : Viewed). refl)
+same_after throws s (Serve ask) = same_chosen (serving s) s (slice_get s.asks ask) (λ (a : Asking). refl)
+same_after throws s (Deliver wire) = same_chosen (delivering wire s) s (slice_get s.wires wire) (λ (w : Wired). same_if (is_current s w.ask) _ s)
+same_after throws s (Lose ask) =
+    same_chosen (losing s) s (slice_get s.asks ask)
+    (λ (a : Asking). same_chosen (losing_by s a) s s.current (λ (v : Viewed). same_if (is_current s a && may_lose v a) _ s))
+same_after throws s Close = same_closed throws s
+same_after throws s (Embed text) = refl
+
+pub catalogue_stays : (throws : Throws) (c : Catalogue) (past : List Step) → (session_of throws c past).catalogue ≡ c
+catalogue_stays throws c [] = refl
+catalogue_stays throws c (step ∷ past) = same_after throws (session_of throws c past) step ∙ catalogue_stays throws c past
+
+-- ---- of each view
+
+-- what holds of all views holds of each
+pub among : (P : Viewed → Type 0) (ended : List Ended) (current : Option Viewed) (v : Viewed)
+    → AllByRecursion (λ (e : Ended). P e.view) ended → IfSome current P
+    → Contains (map (λ (e : Ended). e.view) ended ++ option_to_list current) v → P v
+among P [] None v h k (at, within, is) = absurd (omega arith)
+among P [] (Some w) v h k (zero, within, is) = subst P is k
+among P [] (Some w) v h k (suc at, within, is) = absurd (omega arith)
+among P (e ∷ es) current v h k (zero, within, is) = subst P is h.0
+among P (e ∷ es) current v h k (suc at, within, is) = among P es current v h.1 k (at, omega arith, is)
+
+pub views_over : ViewsAreOver
+views_over throws c past v there =
+    let s = session_of throws c past in
+    let h = over_session throws c past in
+    subst (λ (d : Catalogue). IsOver d v) (catalogue_stays throws c past) (among (IsOver s.catalogue) s.ended s.current v h.ended h.current there)
+
+pub sessions_hold : SessionsHold
+sessions_hold throws c past lawful v there =
+    let over = views_over throws c past v there in
+    let distinct : HasDistinctNames v.opening.registered =
+    subst (λ (rows : List Row). HasDistinctNames (record { rows = rows; features = v.opening.registered.features })) (sym over.rows)
+    (start_distinct c lawful v.entries v.viewer v.context v.opening.registered.features) in
+    let held = headline (view_in throws v) (events_in v) distinct (books_lawful throws v.opening v.past) in
+    record { runs = held.0; ready = held.1 }

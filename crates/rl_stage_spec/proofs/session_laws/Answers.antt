@@ -1,0 +1,5 @@
+use Rattle.rl_stage_spec.proofs.ViewsLemmas.{sessions_hold, views_over}
+use Rattle.rl_stage_spec.proofs.session_laws.Goals as goal
+
+pub returns : goal.returns
+returns c = record { hold = sessions_hold; over = views_over }

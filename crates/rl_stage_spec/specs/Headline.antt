@@ -1,0 +1,46 @@
+-- What holds of every session, whatever its steps and their order.
+use Rattle.std.specs.Prelude.{◌≡◌, ◌++◌, List, Contains, IsTrue, map, option_to_list}
+use Rattle.rl_defs.specs.Catalogue.{Catalogue, IsCatalogue}
+use Rattle.rl_build.specs.Sight.{Sight, sight}
+use Rattle.rl_loadphp.specs.Body.{implementations}
+use Rattle.rl_loadphp.specs.Embed.{private_names}
+use Rattle.rl_startup.specs.Registry.{start_of}
+use Rattle.rl_view_spec.specs.Closure.{Text}
+use Rattle.rl_view_spec.specs.Headline.{ReadyWhereGood, RunsOnceAndAfter}
+use Rattle.rl_view_spec.specs.View.{Throws, is_touched}
+use Rattle.rl_steps.specs.declared.step.Step.{Step}
+use Rattle.rl_stage_spec.specs.Replies.{events_in, view_in}
+use Rattle.rl_stage_spec.specs.Session.{Session, Viewed, base_of, session_of}
+
+-- all views of a session, by number
+abbrev pub views_of : Session → List Viewed
+views_of s = map (λ e. e.view) s.ended ++ option_to_list s.current
+
+-- ---- once and after, and ready exactly where all is good
+
+-- No module of a view runs twice, and each runs after all else that it needs. A touched name is ready exactly where all of
+-- its closure is good.
+pub record ViewHolds (throws : Throws) (v : Viewed) : Type 0 where
+  pub runs : RunsOnceAndAfter (view_in throws v) (events_in v)
+  pub ready : (name : Text) → IsTrue (is_touched (view_in throws v) (events_in v) name) → ReadyWhereGood (view_in throws v) (events_in v) name
+
+abbrev pub SessionsHold : Type 0
+SessionsHold =
+    (throws : Throws) (c : Catalogue) (past : List Step) → IsCatalogue c → (v : Viewed) → Contains (views_of (session_of throws c past)) v
+    → ViewHolds throws v
+
+-- ---- what views are opened over
+
+-- the wiki as it was when a view was opened, to the view's viewer
+abbrev pub seen_at_view : Catalogue → Viewed → Sight
+seen_at_view c v = sight c v.entries v.viewer
+
+-- the rows and the embedded parts of a view are the wiki's for its viewer and context, and its queries tell these
+pub record IsOver (c : Catalogue) (v : Viewed) : Type 0 where
+  pub rows : v.opening.registered.rows ≡ (start_of (seen_at_view c v) v.context).rows
+  pub embedded : v.opening.embedded ≡ implementations (seen_at_view c v) v.context (private_names (seen_at_view c v) v.context)
+  pub base : v.opening.base ≡ base_of v.viewer v.context
+
+abbrev pub ViewsAreOver : Type 0
+ViewsAreOver =
+    (throws : Throws) (c : Catalogue) (past : List Step) (v : Viewed) → Contains (views_of (session_of throws c past)) v → IsOver c v
