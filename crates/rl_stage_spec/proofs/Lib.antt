@@ -1,2 +1,3 @@
+pub mod OriginLemmas
 pub mod ViewsLemmas
 mod Worked

@@ -1,8 +1,14 @@
 -- What holds of every session, whatever its steps and their order.
-use Rattle.std.specs.Prelude.{◌≡◌, ◌++◌, List, Contains, IsTrue, map, option_to_list}
+use Rattle.std.specs.Prelude.{◌≡◌, ◌++◌, List, Contains, IsTrue, map, option_to_list, Some}
 use Rattle.rl_defs.specs.Catalogue.{Catalogue, IsCatalogue}
 use Rattle.rl_build.specs.Sight.{Sight, sight}
-use Rattle.rl_loadphp.specs.Body.{implementations}
+use Rattle.rl_build.specs.declared.context.Context.{Context}
+use Rattle.rl_pages.specs.declared.entry.Entry.{Entry}
+use Rattle.rl_pages.specs.declared.viewer.Viewer.{Viewer}
+use Rattle.rl_wire.specs.declared.part.Part.{Part}
+use Rattle.rl_book_spec.specs.Given.{given_to}
+use Rattle.rl_book_spec.specs.declared.Origin.TheVariants as origin
+use Rattle.rl_loadphp.specs.Body.{implementation_of, implementations}
 use Rattle.rl_loadphp.specs.Embed.{private_names}
 use Rattle.rl_startup.specs.Registry.{start_of}
 use Rattle.rl_view_spec.specs.Closure.{Text}
@@ -28,6 +34,18 @@ abbrev pub SessionsHold : Type 0
 SessionsHold =
     (throws : Throws) (c : Catalogue) (past : List Step) → IsCatalogue c → (v : Viewed) → Contains (views_of (session_of throws c past)) v
     → ViewHolds throws v
+
+-- ---- built
+
+-- what the wiki of this history builds of a module for a viewer, in a context: all that the module brings, under the hash of that
+abbrev pub IsBuilt : Catalogue → List Entry → Viewer → Context → Part → Type 0
+IsBuilt c entries viewer ctx part = (name : Text) × (implementation_of (sight c entries viewer) ctx name ≡ Some part)
+
+-- a part that was embedded in a page was built when the view was opened
+abbrev pub EmbeddedIsBuilt : Type 0
+EmbeddedIsBuilt =
+    (throws : Throws) (c : Catalogue) (past : List Step) (v : Viewed) → Contains (views_of (session_of throws c past)) v
+    → (name : Text) (part : Part) → given_to v.opening v.past name ≡ Some (part, origin.Embedded) → IsBuilt c v.entries v.viewer v.context part
 
 -- ---- what views are opened over
 

@@ -1,5 +1,6 @@
+use Rattle.rl_stage_spec.proofs.OriginLemmas.{embedded_is_built}
 use Rattle.rl_stage_spec.proofs.ViewsLemmas.{sessions_hold, views_over}
 use Rattle.rl_stage_spec.proofs.session_laws.Goals as goal
 
 pub returns : goal.returns
-returns c = record { hold = sessions_hold; over = views_over }
+returns c = record { hold = sessions_hold; over = views_over; embedded = embedded_is_built }
