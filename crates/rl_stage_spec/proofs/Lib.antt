@@ -1,3 +1,4 @@
 pub mod OriginLemmas
 pub mod ViewsLemmas
+pub mod WiresLemmas
 mod Worked

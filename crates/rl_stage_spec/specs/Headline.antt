@@ -1,12 +1,16 @@
 -- What holds of every session, whatever its steps and their order.
-use Rattle.std.specs.Prelude.{◌≡◌, ◌++◌, List, Contains, IsTrue, map, option_to_list, Some}
+use Rattle.std.specs.Prelude.{◌≡◌, ◌++◌, List, Contains, IsTrue, map, option_to_list, slice_get, Some, Ok, ℕ}
 use Rattle.rl_defs.specs.Catalogue.{Catalogue, IsCatalogue}
 use Rattle.rl_build.specs.Sight.{Sight, sight}
 use Rattle.rl_build.specs.declared.context.Context.{Context}
 use Rattle.rl_pages.specs.declared.entry.Entry.{Entry}
 use Rattle.rl_pages.specs.declared.viewer.Viewer.{Viewer}
 use Rattle.rl_wire.specs.declared.part.Part.{Part}
+use Rattle.rl_wire.specs.Reading.{answer_of}
+use Rattle.rl_wiki.specs.Front.{wiki_answer}
 use Rattle.rl_book_spec.specs.Given.{given_to}
+use Rattle.rl_book_spec.specs.Opening.{part_of}
+use Rattle.rl_book_spec.specs.declared.Mark.{Mark}
 use Rattle.rl_book_spec.specs.declared.Origin.TheVariants as origin
 use Rattle.rl_loadphp.specs.Body.{implementation_of, implementations}
 use Rattle.rl_loadphp.specs.Embed.{private_names}
@@ -16,7 +20,7 @@ use Rattle.rl_view_spec.specs.Headline.{ReadyWhereGood, RunsOnceAndAfter}
 use Rattle.rl_view_spec.specs.View.{Throws, is_touched}
 use Rattle.rl_steps.specs.declared.step.Step.{Step}
 use Rattle.rl_stage_spec.specs.Replies.{events_in, view_in}
-use Rattle.rl_stage_spec.specs.Session.{Session, Viewed, base_of, session_of}
+use Rattle.rl_stage_spec.specs.Session.{Session, Viewed, Wired, base_of, body_of, session_of}
 
 -- all views of a session, by number
 abbrev pub views_of : Session → List Viewed
@@ -46,6 +50,25 @@ abbrev pub EmbeddedIsBuilt : Type 0
 EmbeddedIsBuilt =
     (throws : Throws) (c : Catalogue) (past : List Step) (v : Viewed) → Contains (views_of (session_of throws c past)) v
     → (name : Text) (part : Part) → given_to v.opening v.past name ≡ Some (part, origin.Embedded) → IsBuilt c v.entries v.viewer v.context part
+
+-- A part that a view of this number was given by an answer: the wiki made the answer for an ask of that very view, of what it
+-- was then, for the view's viewer, and the part is the first of its name that stands there.
+pub record CameBy (s : Session) (number : ℕ) (v : Viewed) (name : Text) (part : Part) (mark : Mark) : Type 0 where
+  pub wire : Wired
+  pub kept : slice_get s.wires mark.answer ≡ Some wire
+  pub own : wire.ask.view ≡ number
+  pub viewer : wire.ask.viewer ≡ v.viewer
+  pub text : wire.text ≡ body_of (wiki_answer s.catalogue wire.entries v.viewer wire.ask.query)
+  pub parts : List Part
+  pub read : answer_of wire.text ≡ Ok parts
+  pub stands : part_of parts name ≡ Some part
+
+abbrev pub PartsComeByAnswers : Type 0
+PartsComeByAnswers =
+    (throws : Throws) (c : Catalogue) (past : List Step) (number : ℕ) (v : Viewed)
+    → slice_get (views_of (session_of throws c past)) number ≡ Some v
+    → (name : Text) (part : Part) (mark : Mark) → given_to v.opening v.past name ≡ Some (part, origin.Wire mark)
+    → CameBy (session_of throws c past) number v name part mark
 
 -- ---- what views are opened over
 
