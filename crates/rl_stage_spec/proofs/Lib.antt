@@ -1,3 +1,4 @@
+pub mod AnswersLemmas
 pub mod OriginLemmas
 pub mod ViewsLemmas
 pub mod WiresLemmas

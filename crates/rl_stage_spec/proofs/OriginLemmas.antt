@@ -52,13 +52,13 @@ is_embedded (Some (part, origin.Embedded)) = true
 is_embedded (Some (part, origin.Stored wire)) = false
 is_embedded (Some (part, origin.Wire mark)) = false
 
-abbrev from_embedded : Part → Part × Origin
+abbrev pub from_embedded : Part → Part × Origin
 from_embedded part = (part, origin.Embedded)
 
-abbrev from_store : Stored → Part × Origin
+abbrev pub from_store : Stored → Part × Origin
 from_store s = (s.part, origin.Stored s.wire)
 
-abbrev from_there : Origin → Part → Part × Origin
+abbrev pub from_there : Origin → Part → Part × Origin
 from_there from part = (part, from)
 
 embedded_at_touch : (part : Part) (found : Option Part) (b : Bool) (stored : Option Stored)

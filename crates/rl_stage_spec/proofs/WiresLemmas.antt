@@ -1,21 +1,20 @@
 -- The answers that came to a view are those to its own asks.
 use Rattle.std.proofs.Common.{◌≡◌, ℕ, zero, suc, ◌+◌, ◌<◌, ◌≤◌, Bool, true, false, List, [], ◌∷◌, ◌++◌, map, length, Option, Some, None}
-use Rattle.std.proofs.Common.{refl, sym, ap, subst, ◌∙◌, arith, length-append, append-nil, nat_eq}
+use Rattle.std.proofs.Common.{refl, sym, subst, arith, length-append, append-nil}
 use Rattle.std.specs.Prelude.{⊤, if◌then◌else◌, Contains, IfSome, Result, Ok, Err, is_none, is_some, option_and_then, option_map, option_to_list, slice_get}
 use Rattle.std.specs.Prelude.{◌&&◌, ◌==◌}
 use Rattle.std.specs.List.{AllByRecursion}
 use Rattle.std.specs.Option.{option_map_or}
-use Rattle.std.proofs.lemmas.Bool.{and_parts}
 use Rattle.std.proofs.lemmas.Bool.Decides.{nat_tests}
 use Rattle.rl_defs.specs.Catalogue.{Catalogue}
 use Rattle.rl_build.specs.declared.context.Context.{Context}
 use Rattle.rl_pages.specs.declared.entry.Entry.{Entry}
 use Rattle.rl_pages.specs.declared.viewer.Viewer.{Viewer}
-use Rattle.rl_view_spec.specs.Closure.{Text, refusal_of, row_of}
+use Rattle.rl_view_spec.specs.Closure.{Text, refusal_of}
 use Rattle.rl_view_spec.specs.View.{Throws}
 use Rattle.rl_wiki.specs.Front.{wiki_answer}
 use Rattle.rl_book_spec.specs.Opening.{Opening}
-use Rattle.rl_book_spec.specs.Traffic.{traffic_of, waiting_of}
+use Rattle.rl_book_spec.specs.Traffic.{traffic_of}
 use Rattle.rl_book_spec.specs.declared.Call.{Call}
 use Rattle.rl_book_spec.specs.declared.Call.TheVariants as calls
 use Rattle.rl_book_spec.specs.declared.Sent.{Sent}
@@ -23,7 +22,7 @@ use Rattle.rl_steps.specs.declared.step.Step.{Step}
 use Rattle.rl_steps.specs.declared.step.Step.TheVariants.{Edit, Choice, Clock, View, Using, Load, Take, Serve, Deliver, Lose, Close, Embed}
 use Rattle.rl_stage_spec.specs.Headline.{views_of}
 use Rattle.rl_stage_spec.specs.Session.{Asking, Ended, Session, Viewed, Wired, asking_by, body_of, choice_by, closed, delivering, delivery_of, edit_by, ending}
-use Rattle.rl_stage_spec.specs.Session.{first_waiting, is_current, losing, losing_by, may_lose, opened, serving, session_after, session_of, started, taking}
+use Rattle.rl_stage_spec.specs.Session.{first_waiting, is_current, losing, losing_by, may_lose, opened, serving, session_after, session_of, taking}
 use Rattle.rl_stage_spec.specs.Session.{using_by, view_over, wire_for, with_call, with_entry}
 
 -- ---- lists
@@ -168,7 +167,7 @@ sound_ending throws s v h is =
             asked = all_other (AskOk (length s.ended) (Some v)) (AskOk (length s.ended + 1) None) s.asks (ask_before (length s.ended) v) now.asked;
             wired =
                 all_other (WireOk s.catalogue (length s.ended) (Some v)) (WireOk s.catalogue (length s.ended + 1) None) s.wires
-                    (λ (w : Wired) k. (ask_before (length s.ended) v w.ask k.0, k.1)) now.wired;
+                (λ (w : Wired) k. (ask_before (length s.ended) v w.ask k.0, k.1)) now.wired;
             called = tt;
           });
       past = ended_more s.catalogue s.wires 0 s.ended _ h.past (subst (λ n. CallsOk s.catalogue s.wires n v) (sym same) now.called);
@@ -197,7 +196,7 @@ sound_opened viewer ctx features s is h =
         asked = all_other (AskOk (length s.ended) None) (AskOk (length s.ended) (opened viewer ctx features s).current) s.asks (ask_again (length s.ended) (view_over s viewer ctx features)) now.asked;
         wired =
             all_other (WireOk s.catalogue (length s.ended) None) (WireOk s.catalogue (length s.ended) (opened viewer ctx features s).current) s.wires
-                (λ (w : Wired) k. (ask_again (length s.ended) (view_over s viewer ctx features) w.ask k.0, k.1)) now.wired;
+            (λ (w : Wired) k. (ask_again (length s.ended) (view_over s viewer ctx features) w.ask k.0, k.1)) now.wired;
         called = tt;
       };
       past = h.past;
@@ -271,7 +270,7 @@ sound_serving s number ask is h = record {
     asked = h.now.asked;
     wired =
         one_more (WireOk s.catalogue (length s.ended) s.current) s.wires (wire_for s ask) h.now.wired
-            (all_at (AskOk (length s.ended) s.current) s.asks number ask h.now.asked is, refl);
+        (all_at (AskOk (length s.ended) s.current) s.asks number ask h.now.asked is, refl);
     called = current_more s.catalogue s.wires (wire_for s ask) (length s.ended) s.current h.now.called;
   };
   past = past_more s.catalogue s.wires (wire_for s ask) 0 s.ended h.past;
