@@ -108,7 +108,7 @@ found_part P (p ∷ ps) name part all is = step (bytes_eq (part_name p) name) (�
     step false rest e = rest e
 
 module _ (seen : Sight) (ctx : Context) where
-  abbrev Made : Part → Type 0
+  abbrev pub Made : Part → Type 0
   Made part = (name : Text) × (implementation_of seen ctx name ≡ Some part)
 
   pub all_made : (names : List Text) → AllByRecursion Made (implementations seen ctx names)
