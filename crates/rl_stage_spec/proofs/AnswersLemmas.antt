@@ -75,6 +75,11 @@ module _ (s : Session) (number : ℕ) (v : Viewed) (name : Text) (part : Part) (
         kept = ap (λ (m : Mark). slice_get s.wires m.answer) (sym given.mark_is) ∙ h.kept;
         own = h.own;
         viewer = h.asked.viewer_is;
+        asked = h.asked.past;
+        batch = h.asked.batch;
+        sent = h.asked.sent;
+        waited = h.asked.there;
+        query = h.asked.query_is;
         text = h.said ∙ ap (λ viewer. body_of (wiki_answer s.catalogue h.wire.entries viewer h.wire.ask.query)) h.asked.viewer_is;
         parts = given.parts;
         read = ap wire.answer_of h.bytes_are ∙ given.read_is;

@@ -1,7 +1,10 @@
 pub mod AnswersLemmas
+pub mod BuiltLemmas
 pub mod OriginLemmas
 pub mod ReadLemmas
 pub mod ServedLemmas
+pub mod QueriesLemmas
+pub mod TextsLemmas
 pub mod ViewsLemmas
 pub mod WiresLemmas
 mod Worked

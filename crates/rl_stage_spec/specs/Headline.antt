@@ -1,5 +1,12 @@
 -- What holds of every session, whatever its steps and their order.
-use Rattle.std.specs.Prelude.{◌≡◌, ◌++◌, List, Contains, IsTrue, map, option_to_list, slice_get, Some, Ok, ℕ}
+use Rattle.std.specs.List.{AllByRecursion}
+use Rattle.rl_names.specs.declared.part.Message.{Message}
+use Rattle.rl_wire.specs.declared.part.Part.TheVariants.{Impl}
+use Rattle.rl_book_spec.specs.Traffic.{traffic_of}
+use Rattle.rl_book_spec.specs.declared.Call.{Call}
+use Rattle.rl_book_spec.specs.declared.Sent.{Sent}
+use Rattle.rl_steps.specs.declared.step.Step.TheVariants.{View}
+use Rattle.std.specs.Prelude.{⊤, IsUtf8, ◌≡◌, ◌++◌, List, Contains, IsTrue, map, option_to_list, slice_get, Some, Ok, ℕ}
 use Rattle.rl_defs.specs.Catalogue.{Catalogue, IsCatalogue}
 use Rattle.rl_build.specs.Sight.{Sight, sight}
 use Rattle.rl_build.specs.declared.context.Context.{Context}
@@ -51,13 +58,18 @@ EmbeddedIsBuilt =
     (throws : Throws) (c : Catalogue) (past : List Step) (v : Viewed) → Contains (views_of (session_of throws c past)) v
     → (name : Text) (part : Part) → given_to v.opening v.past name ≡ Some (part, origin.Embedded) → IsBuilt c v.entries v.viewer v.context part
 
--- A part that a view of this number was given by an answer: the wiki made the answer for an ask of that very view, of what it
--- was then, for the view's viewer, and the part is the first of its name that stands there.
+-- A part that a view of this number was given by an answer: the wiki made the answer for an ask of that very view, which is for
+-- one of its batches, of what the wiki was then, for the view's viewer, and the part is the first of its name that stands there.
 pub record CameBy (s : Session) (number : ℕ) (v : Viewed) (name : Text) (part : Part) (mark : Mark) : Type 0 where
   pub wire : Wired
   pub kept : slice_get s.wires mark.answer ≡ Some wire
   pub own : wire.ask.view ≡ number
   pub viewer : wire.ask.viewer ≡ v.viewer
+  pub asked : List Call
+  pub batch : ℕ
+  pub sent : Sent
+  pub waited : slice_get (traffic_of v.opening asked).batches batch ≡ Some sent
+  pub query : wire.ask.query ≡ sent.batch.query
   pub text : wire.text ≡ body_of (wiki_answer s.catalogue wire.entries v.viewer wire.ask.query)
   pub parts : List Part
   pub read : answer_of wire.text ≡ Ok parts
@@ -69,6 +81,27 @@ PartsComeByAnswers =
     → slice_get (views_of (session_of throws c past)) number ≡ Some v
     → (name : Text) (part : Part) (mark : Mark) → given_to v.opening v.past name ≡ Some (part, origin.Wire mark)
     → CameBy (session_of throws c past) number v name part mark
+
+-- the texts of a step that opens a view are UTF-8, as all texts of scripts are
+abbrev pub OpensWithTexts : Step → Type 0
+OpensWithTexts (View user lang skin debug features) = IsUtf8 user × IsUtf8 lang × IsUtf8 skin
+OpensWithTexts other = ⊤
+
+-- A part that an answer gave was built for the view's viewer and context when the wiki made that answer, which is one to an ask
+-- of this view.
+pub record IsServed (s : Session) (number : ℕ) (v : Viewed) (part : Part) (mark : Mark) : Type 0 where
+  pub wire : Wired
+  pub kept : slice_get s.wires mark.answer ≡ Some wire
+  pub own : wire.ask.view ≡ number
+  pub built : IsBuilt s.catalogue wire.entries v.viewer v.context part
+
+abbrev pub ServedIsBuilt : Type 0
+ServedIsBuilt =
+    (throws : Throws) (c : Catalogue) (past : List Step) → IsCatalogue c → AllByRecursion OpensWithTexts past → (number : ℕ) (v : Viewed)
+    → slice_get (views_of (session_of throws c past)) number ≡ Some v
+    → (name found version script styles : Text) (messages : List Message) (mark : Mark)
+    → given_to v.opening v.past name ≡ Some (Impl found version script styles messages, origin.Wire mark)
+    → IsServed (session_of throws c past) number v (Impl found version script styles messages) mark
 
 -- ---- what views are opened over
 

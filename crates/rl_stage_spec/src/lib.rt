@@ -1,15 +1,16 @@
 //! What a session of both ends is: what its steps do and answer, as definitions, with the headline over any steps.
 #![tactic(auto)]
 
-ghost use Rattle.rl_stage_spec.specs.Headline.{EmbeddedIsBuilt, PartsComeByAnswers, SessionsHold, ViewsAreOver};
+ghost use Rattle.rl_stage_spec.specs.Headline.{EmbeddedIsBuilt, PartsComeByAnswers, ServedIsBuilt, SessionsHold, ViewsAreOver};
 
 /// Of every session over lawful definitions, whatever its steps: in each view no module runs twice, each runs after all else
 /// that it needs, and a touched name is ready exactly where all of its closure is good. Each view is opened over what the wiki
-/// has for its viewer then; what was embedded was built then; and what came by an answer stands in what the wiki said, at one
-/// moment, to an ask of that very view.
+/// has for its viewer then, and what was embedded was built then. What came by an answer stands in what the wiki said, at one
+/// moment, to an ask of that very view, and was built at that moment for the view's viewer and context.
 pub fn session_laws()
     ensures hold { SessionsHold }
     ensures over { ViewsAreOver }
     ensures embedded { EmbeddedIsBuilt }
     ensures answers { PartsComeByAnswers }
+    ensures served { ServedIsBuilt }
 {}
