@@ -1,5 +1,6 @@
 -- What came by answers was built for the view.
-use Rattle.std.proofs.Common.{◌≡◌, ℕ, zero, suc, arith, Bool, true, false, List, [], ◌∷◌, map, Option, Some, None, refl, sym, ap, subst, ◌∙◌, IsTrue, IsUtf8, codes, bytes_eq}
+use Rattle.std.proofs.Common.{◌≡◌, ℕ, zero, suc, arith, Bool, true, false, List, [], ◌∷◌, map}
+use Rattle.std.proofs.Common.{Option, Some, None, refl, sym, ap, subst, ◌∙◌, IsTrue, IsUtf8, codes, bytes_eq}
 use Rattle.std.specs.Prelude.{Contains, if◌then◌else◌, not, option_map, slice_get, ◌||◌}
 use Rattle.std.specs.List.{AllByRecursion, cons_option, filter_map, fold, list_any}
 use Rattle.std.specs.Ordering.{match_ordering, nat_cmp}
@@ -71,7 +72,8 @@ low_built_in built_in.User = refl
 low_built_in built_in.UserOptions = refl
 low_built_in built_in.UserStyles = refl
 
-low_all : (names : List Text) (bs : List BuiltIn) → AreLow names → AreLow (fold (λ (names : List Text) (b : BuiltIn). put_name names (built_in_name b)) names bs)
+low_all : (names : List Text) (bs : List BuiltIn) → AreLow names
+    → AreLow (fold (λ (names : List Text) (b : BuiltIn). put_name names (built_in_name b)) names bs)
 low_all names [] h = h
 low_all names (b ∷ bs) h = low_all (put_name names (built_in_name b)) bs (low_put names (built_in_name b) (low_built_in b) h)
 

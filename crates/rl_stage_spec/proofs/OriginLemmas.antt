@@ -87,7 +87,8 @@ module _ (o : Opening) (part : Part) where
       step None is = absurd (cc)
       step (Some p) is =
           let froms : Some from ≡ Some origin.Embedded = ap (option_map (λ (g : Part × Origin). g.1)) is in
-          let no_way : is_embedded (Some (part, from)) ≡ true = ap (λ (f : Option Origin). is_embedded (option_map (λ (from : Origin). from_there from part) f)) froms in
+          let no_way : is_embedded (Some (part, from)) ≡ true =
+          ap (λ (f : Option Origin). is_embedded (option_map (λ (from : Origin). from_there from part) f)) froms in
           absurd (cc)
 
   embedded_call : (call : Call) (name : Text) → given_by o call name ≡ Some (part, origin.Embedded) → WasEmbedded

@@ -149,7 +149,8 @@ module _ (o : Opening) (low : HaveLowNames o.registered.rows) where
   again sent other same h = subst (λ (b : Batch). IsQuery o.base b.query) (sym same) h
 
   after_lost : (t : Traffic) (ask : ℕ) → AllAsk t → AllAsk (after_loss t ask)
-  after_lost t ask h = asks_after t _ (asked_of t ask) (asked_of t ask) refl h (λ (pair : Asked × Sent) is. step pair (asked_ask t ask pair h is) (may_be_lost pair))
+  after_lost t ask h = asks_after t _ (asked_of t ask) (asked_of t ask) refl h
+      (λ (pair : Asked × Sent) is. step pair (asked_ask t ask pair h is) (may_be_lost pair))
     where
       step : (pair : Asked × Sent) → Asks o.base pair.1 → (b : Bool) → AllAsk (if b then with_loss ask pair.0 pair.1 t else t)
       step pair k true =

@@ -77,7 +77,8 @@ mutual
   plain_members b no_members h = refl
   plain_members b (member k d ms) h =
       no_end-append (comma_if b) (quoted k ++ 58 ∷ (compact_text d ++ members_text true ms)) (comma_plain b)
-      (no_end-append (quoted k) (58 ∷ (compact_text d ++ members_text true ms)) (no_end-quoted k) (no_end-append (compact_text d) (members_text true ms) (plain_compact d h.0) (plain_members true ms h.1)))
+      (no_end-append (quoted k) (58 ∷ (compact_text d ++ members_text true ms)) (no_end-quoted k)
+      (no_end-append (compact_text d) (members_text true ms) (plain_compact d h.0) (plain_members true ms h.1)))
 
 plain_arguments : (ds : List Data) → AllByRecursion IsPlain ds → no_end (arguments_text ds) ≡ true
 plain_arguments [] h = refl
@@ -129,7 +130,8 @@ key_version text key is =
     step false false e d h = absurd (cc)
     step false true e true h = absurd (cc)
     step false true e false h =
-        let whole : length (suffix_by is_at text) ≡ 5 = grind (arith, nat_tests, (and_parts (length (suffix_by is_at text) == 5) (list_all is_version_byte (suffix_by is_at text)) e).0) in
+        let whole : length (suffix_by is_at text) ≡ 5 =
+        grind (arith, nat_tests, (and_parts (length (suffix_by is_at text) == 5) (list_all is_version_byte (suffix_by is_at text)) e).0) in
         let same : suffix_by is_at text ≡ key.version = ap (λ (r : Result Key KeyFault). version_in r (suffix_by is_at text)) h in
         ap length (sym same) ∙ whole
 
@@ -195,7 +197,8 @@ in_brackets part = 91 ∷ (arguments_text (arguments_of part) ++ 93 ∷ [])
 
 -- what a line says, where it is UTF-8
 list_said : (part : Part) → IsReadable part
-    → list_in (91 ∷ (arguments_text (arguments_of part) ++ 93 ∷ [])) ≡ cond (is_utf8 (91 ∷ (arguments_text (arguments_of part) ++ 93 ∷ []))) (Some (arguments_of part)) None
+    → list_in (91 ∷ (arguments_text (arguments_of part) ++ 93 ∷ []))
+    ≡ cond (is_utf8 (91 ∷ (arguments_text (arguments_of part) ++ 93 ∷ []))) (Some (arguments_of part)) None
 list_said part h = step (is_utf8 (91 ∷ (arguments_text (arguments_of part) ++ 93 ∷ []))) (arguments_read_back part (in_order part h))
   where
     step : (b : Bool) → read (91 ∷ (arguments_text (arguments_of part) ++ 93 ∷ [])) ≡ Some (array_of (arguments_of part))

@@ -56,11 +56,16 @@ readable_made seen ctx name part is = step (built_in_named name) (module_named s
     one p none = (hash_length _, subst AreAscending (sym none) tt)
 
     step : (b : Option BuiltIn) (m : Option ModuleDef)
-        → option_map (built name) (option_or (option_map (payload_of_built_in seen.history ctx) b) (option_map (payload_of_module seen.catalogue) m)) ≡ Some part
+        → option_map (built name) (option_or (option_map (payload_of_built_in seen.history ctx) b) (option_map (payload_of_module seen.catalogue) m))
+        ≡ Some part
         → IsReadable part
     step None None e = absurd (cc)
-    step None (Some m) e = let same : built name (payload_of_module seen.catalogue m) ≡ part = cc in subst IsReadable same (one (payload_of_module seen.catalogue m) refl)
-    step (Some b) m e = let same : built name (payload_of_built_in seen.history ctx b) ≡ part = cc in subst IsReadable same (one (payload_of_built_in seen.history ctx b) refl)
+    step None (Some m) e =
+        let same : built name (payload_of_module seen.catalogue m) ≡ part = cc in
+        subst IsReadable same (one (payload_of_module seen.catalogue m) refl)
+    step (Some b) m e =
+        let same : built name (payload_of_built_in seen.history ctx b) ≡ part = cc in
+        subst IsReadable same (one (payload_of_built_in seen.history ctx b) refl)
 
 abbrev pub is_state : Part → Bool
 is_state (Impl name version script styles messages) = false
@@ -70,7 +75,8 @@ module _ (seen : Sight) (ctx : Context) where
   abbrev pub IsPiece : Part → Type 0
   IsPiece part = IsReadable part × ((is_state part ≡ true) ⊎ Made seen ctx part)
 
-  impl_pieces : (parts : List Part) (later : List Part) → AllByRecursion (Made seen ctx) parts → AllByRecursion IsPiece later → AllByRecursion IsPiece (parts ++ later)
+  impl_pieces : (parts : List Part) (later : List Part) → AllByRecursion (Made seen ctx) parts → AllByRecursion IsPiece later
+      → AllByRecursion IsPiece (parts ++ later)
   impl_pieces [] later h k = k
   impl_pieces (part ∷ parts) later h k = ((readable_made seen ctx h.0.0 part h.0.1, inr h.0), impl_pieces parts later h.1 k)
 
@@ -96,7 +102,8 @@ module _ (c : Catalogue) (entries : List Entry) (viewer : Viewer) where
       → Says (body_of (if b then Err refusal else Ok (answer_to (sight c entries viewer) q))) q
   by_sent q all true refusal = inl refl
   by_sent q all false refusal =
-      inr (ap (λ (o : Only). body_for (sight c entries viewer) (query_context c q) o (served (sight c entries viewer) q) (missing (sight c entries viewer) q)) all)
+      inr (ap (λ (o : Only). body_for (sight c entries viewer) (query_context c q) o (served (sight c entries viewer) q)
+      (missing (sight c entries viewer) q)) all)
 
   by_query : (q : Query) → q.only ≡ only.All → Says (body_of (answer_by c entries viewer q)) q
   by_query q all =
@@ -133,7 +140,8 @@ module _ (c : Catalogue) (entries : List Entry) (viewer : Viewer) where
           let none : [] ≡ parts = cc in
           let lost : part_of [] name ≡ Some part = ap (λ (ps : List Part). part_of ps name) none ∙ found in absurd (cc)
 
-      chosen : (IsPiece (sight c entries viewer) (query_context c (query_of bytes)) part) → Made (sight c entries viewer) (query_context c (query_of bytes)) part
+      chosen : IsPiece (sight c entries viewer) (query_context c (query_of bytes)) part
+          → Made (sight c entries viewer) (query_context c (query_of bytes)) part
       chosen piece = elim piece.1 [ inl state ↦ absurd (let clash : true ≡ false = sym state ∙ impl in cc) | inr made ↦ made ]
 
       something : answer_of (wire_text (parts_of (sight c entries viewer) (query_context c (query_of bytes)) (served (sight c entries viewer) (query_of bytes))
@@ -146,4 +154,5 @@ module _ (c : Catalogue) (entries : List Entry) (viewer : Viewer) where
           let all_pieces = pieces seen ctx these others in
           let same : parts ≡ parts_of seen ctx these others =
           answer_said (parts_of seen ctx these others) parts (readable seen ctx (parts_of seen ctx these others) all_pieces) e in
-          chosen (found_part (IsPiece seen ctx) (parts_of seen ctx these others) name part all_pieces (ap (λ (ps : List Part). part_of ps name) (sym same) ∙ found))
+          chosen (found_part (IsPiece seen ctx) (parts_of seen ctx these others) name part all_pieces
+          (ap (λ (ps : List Part). part_of ps name) (sym same) ∙ found))

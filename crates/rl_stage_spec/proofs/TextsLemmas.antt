@@ -83,7 +83,8 @@ low_digits (suc k) n acc h =
 pub low_version : (n : ℕ) → IsLow (version_of_hash n)
 unfolding version_of_hash digits
 low_version n =
-    low_take 5 (padded 5 (base_36 n)) (low_append (replicate (5 - length (base_36 n)) 48) (base_36 n) (low_zeros (5 - length (base_36 n))) (low_digits 64 n [] refl))
+    low_take 5 (padded 5 (base_36 n))
+    (low_append (replicate (5 - length (base_36 n)) 48) (base_36 n) (low_zeros (5 - length (base_36 n))) (low_digits 64 n [] refl))
 
 -- ---- names
 
@@ -117,7 +118,8 @@ low_filter p (name ∷ names) h = step (low_filter p names h.1) (p name)
 
 low_group : (names : List (List ℕ)) → AreLow names → (front : List ℕ) → IsLow front → IsLow (group_text names front)
 low_group names h front k =
-    low_append front _ k (join_none high 44 (map suffix_of (group_of names front)) refl (low_map suffix_of (group_of names front) low_suffix (low_filter _ names h)))
+    low_append front _ k (join_none high 44 (map suffix_of (group_of names front)) refl
+    (low_map suffix_of (group_of names front) low_suffix (low_filter _ names h)))
 
 pub low_pack : (names : List (List ℕ)) → AreLow names → IsLow (pack names)
 low_pack names h =

@@ -49,7 +49,8 @@ module _ (c : Catalogue) (lawful : IsCatalogue c) (entries : List Entry) (viewer
   }
 
   rows_ascend : IsAscending (map (λ (row : Row). row.name) (rows_of (modules_of seen ctx)))
-  rows_ascend = subst IsAscending (sym (rows_are_lawful.names (modules_of seen ctx))) (names_ascend seen ctx (all_names seen) (modules_of seen ctx) are_all refl)
+  rows_ascend = subst IsAscending (sym (rows_are_lawful.names (modules_of seen ctx)))
+      (names_ascend seen ctx (all_names seen) (modules_of seen ctx) are_all refl)
 
 pub same_names : (all rows : List Row) → map (λ (row : Row). row.name) (map (compact_row all) rows) ≡ map (λ (row : Row). row.name) rows
 same_names all [] = refl

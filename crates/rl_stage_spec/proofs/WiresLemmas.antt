@@ -193,7 +193,9 @@ sound_opened viewer ctx features s is h =
     subst (λ (current : Option Viewed). Now s.catalogue (length s.ended) current s.asks s.wires) is h.now in
     record {
       now = record {
-        asked = all_other (AskOk (length s.ended) None) (AskOk (length s.ended) (opened viewer ctx features s).current) s.asks (ask_again (length s.ended) (view_over s viewer ctx features)) now.asked;
+        asked =
+            all_other (AskOk (length s.ended) None) (AskOk (length s.ended) (opened viewer ctx features s).current) s.asks
+            (ask_again (length s.ended) (view_over s viewer ctx features)) now.asked;
         wired =
             all_other (WireOk s.catalogue (length s.ended) None) (WireOk s.catalogue (length s.ended) (opened viewer ctx features s).current) s.wires
             (λ (w : Wired) k. (ask_again (length s.ended) (view_over s viewer ctx features) w.ask k.0, k.1)) now.wired;

@@ -19,8 +19,8 @@ use Rattle.rl_view_spec.specs.Closure.{Text}
 use Rattle.rl_view_spec.specs.Keys.{never}
 use Rattle.rl_script_spec.specs.Output.{line}
 use Rattle.rl_steps.specs.declared.step.Step.{Step}
-use Rattle.rl_steps.specs.declared.step.Step.TheVariants.{Edit, View, Using, Take, Serve, Deliver, Lose, Close}
-use Rattle.rl_stage_spec.specs.Replay.{all_ready, output_of}
+use Rattle.rl_steps.specs.declared.step.Step.TheVariants.{Edit, Choice, Clock, View, Using, Load, Take, Serve, Deliver, Lose, Close, Embed}
+use Rattle.rl_stage_spec.specs.Replay.{all_ready, output_of, printed_of}
 
 abbrev language : Text → List Text → Language
 language code fallback = record { code = code; fallback = fallback; rtl = false }
@@ -86,7 +86,8 @@ edit_between_take_and_serve :
     ++ line (codes "ready site@" ++ version_two) ++ line (codes "ready site.styles@" ++ version_none)
     ++ line (codes "executed site@" ++ version_two ++ codes " 6") ++ line (codes "executed site.styles@" ++ version_none ++ codes " 0")
     ++ line (codes "store site.styles@" ++ version_none) ++ line (codes "store site@" ++ version_two)
-unfolding version_of_hash digits byte_serialize percent_encode_byte is_utf8 chars encode serde_json_on_literals form_urlencoded_on_literals utf8_lossy utf8_valid_len start_of all_rows built_ins
+unfolding version_of_hash digits byte_serialize percent_encode_byte is_utf8 chars encode serde_json_on_literals
+    form_urlencoded_on_literals utf8_lossy utf8_valid_len start_of all_rows built_ins
 edit_between_take_and_serve = refl
 
 -- ---- an answer that comes twice counts once, and an ask that is lost three times is given up
@@ -114,11 +115,13 @@ repeat_and_give_up :
     ++ line (codes "given up") ++ line (codes "took 0 passed 1")
     ++ line (codes "summary") ++ line (codes "view 0") ++ line (codes "ready a@" ++ version_a) ++ line (codes "error b@" ++ version_b)
     ++ line (codes "executed a@" ++ version_a ++ codes " 4") ++ line (codes "store a@" ++ version_a)
-unfolding version_of_hash digits byte_serialize percent_encode_byte is_utf8 chars encode serde_json_on_literals form_urlencoded_on_literals utf8_lossy utf8_valid_len start_of all_rows built_ins
+unfolding version_of_hash digits byte_serialize percent_encode_byte is_utf8 chars encode serde_json_on_literals
+    form_urlencoded_on_literals utf8_lossy utf8_valid_len start_of all_rows built_ins
 repeat_and_give_up = refl
 
 not_all_ready : all_ready never tiny lost ≡ false
-unfolding version_of_hash digits byte_serialize percent_encode_byte is_utf8 chars encode serde_json_on_literals form_urlencoded_on_literals utf8_lossy utf8_valid_len start_of all_rows built_ins
+unfolding version_of_hash digits byte_serialize percent_encode_byte is_utf8 chars encode serde_json_on_literals
+    form_urlencoded_on_literals utf8_lossy utf8_valid_len start_of all_rows built_ins
 not_all_ready = refl
 
 -- ---- two users, one store: what is everybody's is taken from the store, and what is a user's own is asked for
@@ -164,9 +167,41 @@ two_users_one_store :
     ++ line (codes "wire 3") ++ line (codes "took 1 passed 0") ++ line (codes "ran user@" ++ version_of_ben ++ codes " 6")
     ++ line (codes "took 0 passed 1")
     ++ line (codes "summary") ++ told_of (codes "0") version_of_ann ++ told_of (codes "1") version_of_ben
-unfolding version_of_hash digits byte_serialize percent_encode_byte is_utf8 chars encode serde_json_on_literals form_urlencoded_on_literals utf8_lossy utf8_valid_len start_of all_rows built_ins
+unfolding version_of_hash digits byte_serialize percent_encode_byte is_utf8 chars encode serde_json_on_literals
+    form_urlencoded_on_literals utf8_lossy utf8_valid_len start_of all_rows built_ins
 two_users_one_store = refl
 
 two_users_ready : all_ready never tiny two_users ≡ true
-unfolding version_of_hash digits byte_serialize percent_encode_byte is_utf8 chars encode serde_json_on_literals form_urlencoded_on_literals utf8_lossy utf8_valid_len start_of all_rows built_ins
+unfolding version_of_hash digits byte_serialize percent_encode_byte is_utf8 chars encode serde_json_on_literals
+    form_urlencoded_on_literals utf8_lossy utf8_valid_len start_of all_rows built_ins
 two_users_ready = refl
+
+-- ---- steps without what they speak of, and steps of a view that was closed
+
+abbrev missing_things : List Step
+missing_things = reverse (
+    Take ∷ Close ∷ Using (codes "a" ∷ []) ∷ Lose 0 ∷ Serve 0 ∷ Deliver 0 ∷ Embed [] ∷ Clock 10
+    ∷ Edit [] (codes "Talk") 0 [] ∷ Edit (codes "Ann") (codes "a|b") 0 [] ∷ Edit (codes "Root") (codes "Talk") 5 []
+    ∷ Choice [] (codes "key") [] ∷ Choice (codes "Ann") [] [] ∷ Choice (codes "Ann") (codes "key") (codes "value")
+    ∷ View (codes "Ann") (codes "en") (codes "vector") false [] ∷ Load (codes "a" ∷ codes "zz" ∷ codes "a" ∷ []) ∷ Using (codes "zz" ∷ []) ∷ Take ∷ Serve 0
+    ∷ Close ∷ Lose 0 ∷ Deliver 0
+    ∷ View (codes "Ann") (codes "en") (codes "vector") false [] ∷ Lose 0 ∷ Using (codes "a" ∷ []) ∷ Take ∷ Lose 1 ∷ Lose 1 ∷ Take ∷ Serve 2 ∷ Deliver 1
+    ∷ Lose 2 ∷ Lose 1 ∷ Serve 1 ∷ [])
+
+abbrev ask_a : Text → Text
+ask_a number = line (codes "ask " ++ number ++ codes " local lang=en&modules=a&skin=vector&version=" ++ hash_5 version_a)
+
+what_is_missing_is_told :
+    printed_of never tiny missing_things
+    ≡ line (codes "no view") ++ line (codes "no view") ++ line (codes "no view") ++ line (codes "no ask") ++ line (codes "no ask")
+    ++ line (codes "no wire") ++ line (codes "no view") ++ line (codes "clock 10")
+    ++ line (codes "refused policy") ++ line (codes "refused title") ++ line (codes "refused conflict 0")
+    ++ line (codes "refused policy") ++ line (codes "refused key") ++ line (codes "revision 1")
+    ++ line (codes "view 0 rows 9") ++ line (codes "load dropped 1") ++ line (codes "using unknown zz") ++ ask_a (codes "0") ++ line (codes "wire 0")
+    ++ line (codes "closed") ++ line (codes "no view") ++ line (codes "took 0 passed 1")
+    ++ line (codes "view 1 rows 9") ++ line (codes "settled") ++ line (codes "using ok") ++ ask_a (codes "1") ++ line (codes "again 1")
+    ++ line (codes "lost before") ++ ask_a (codes "2") ++ line (codes "wire 1") ++ line (codes "took 1 passed 0")
+    ++ line (codes "ran a@" ++ version_a ++ codes " 4") ++ line (codes "settled") ++ line (codes "settled") ++ line (codes "wire 2")
+unfolding version_of_hash digits byte_serialize percent_encode_byte is_utf8 chars encode serde_json_on_literals
+    form_urlencoded_on_literals utf8_lossy utf8_valid_len start_of all_rows built_ins
+what_is_missing_is_told = refl
