@@ -235,6 +235,7 @@ served_is_built throws c past lawful texts number v at name found version script
       wire = came.wire;
       kept = came.kept;
       own = came.own;
+      viewer = came.viewer;
       built = subst (λ (ctx : Context). Made (sight s.catalogue came.wire.entries v.viewer) ctx part) in_context made;
     }
   where

@@ -35,7 +35,7 @@ some_same : {X : Type 0} (x y : X) → Some x ≡ Some y → x ≡ y
 some_same x y is = ap (λ (o : Option _). option_map_or (λ z. z) o x) is
 
 module _ {X : Type 0} (P : X → Type 0) where
-  all_append : (xs ys : List X) → AllByRecursion P xs → AllByRecursion P ys → AllByRecursion P (xs ++ ys)
+  pub all_append : (xs ys : List X) → AllByRecursion P xs → AllByRecursion P ys → AllByRecursion P (xs ++ ys)
   all_append [] ys h k = k
   all_append (x ∷ xs) ys h k = (h.0, all_append xs ys h.1 k)
 
@@ -44,7 +44,7 @@ module _ {X : Type 0} (P : X → Type 0) where
   all_set (y ∷ ys) zero x h p = (p, h.1)
   all_set (y ∷ ys) (suc at) x h p = (h.0, all_set ys at x h.1 p)
 
-  all_filter : (f : X → Bool) (xs : List X) → AllByRecursion P xs → AllByRecursion P (filter f xs)
+  pub all_filter : (f : X → Bool) (xs : List X) → AllByRecursion P xs → AllByRecursion P (filter f xs)
   all_filter f [] h = tt
   all_filter f (x ∷ xs) h = step (all_filter f xs h.1) (f x)
     where
@@ -60,7 +60,7 @@ module _ {X : Type 0} (P : X → Type 0) where
       step rest true = (p, h)
       step rest false = (h.0, rest)
 
-  all_sorted : (before : X → X → Bool) (xs : List X) → AllByRecursion P xs → AllByRecursion P (sorted_by before xs)
+  pub all_sorted : (before : X → X → Bool) (xs : List X) → AllByRecursion P xs → AllByRecursion P (sorted_by before xs)
   all_sorted before [] h = tt
   all_sorted before (x ∷ xs) h = all_inserted before x (sorted_by before xs) h.0 (all_sorted before xs h.1)
 

@@ -82,7 +82,7 @@ same_entry (Err refusal) s = refl
 pub same_closed : (throws : Throws) (s : Session) → (closed throws s).catalogue ≡ s.catalogue
 same_closed throws s = same_chosen (ending throws s) s s.current (λ (v : Viewed). refl)
 
-same_after : (throws : Throws) (s : Session) (step : Step) → (session_after throws s step).catalogue ≡ s.catalogue
+pub same_after : (throws : Throws) (s : Session) (step : Step) → (session_after throws s step).catalogue ≡ s.catalogue
 same_after throws s (Edit by title base text) = same_entry (edit_by s by title base text) s
 same_after throws s (Choice user key value) = same_entry (choice_by s user key value) s
 same_after throws s (Clock now) = refl
@@ -117,7 +117,7 @@ among P (e ∷ es) current v h k (suc at, within, is) = among P es current v h.1
 
 -- ---- what holds of each view when it is opened, and is kept by calls, holds of all views
 
-one_more : {X : Type 0} (P : X → Type 0) (xs : List X) (x : X) → AllByRecursion P xs → P x → AllByRecursion P (xs ++ x ∷ [])
+pub one_more : {X : Type 0} (P : X → Type 0) (xs : List X) (x : X) → AllByRecursion P xs → P x → AllByRecursion P (xs ++ x ∷ [])
 one_more P [] x h p = (p, tt)
 one_more P (y ∷ ys) x h p = (h.0, one_more P ys x h.1 p)
 

@@ -45,7 +45,7 @@ all_among P [] x h (at, within, is) = absurd (omega arith)
 all_among P (y ∷ ys) x h (zero, within, is) = subst P is h.0
 all_among P (y ∷ ys) x h (suc at, within, is) = all_among P ys x h.1 (at, omega arith, is)
 
-get_more : {X : Type 0} (xs : List X) (y : X) (at : ℕ) (x : X) → slice_get xs at ≡ Some x → slice_get (xs ++ y ∷ []) at ≡ Some x
+pub get_more : {X : Type 0} (xs : List X) (y : X) (at : ℕ) (x : X) → slice_get xs at ≡ Some x → slice_get (xs ++ y ∷ []) at ≡ Some x
 get_more [] y at x is = absurd (cc)
 get_more (z ∷ zs) y zero x is = is
 get_more (z ∷ zs) y (suc at) x is = get_more zs y at x is
@@ -180,7 +180,7 @@ sound_closing throws s (Some v) is h = sound_ending throws s v h is
 sound_closed : (throws : Throws) (s : Session) → Sound s → Sound (closed throws s)
 sound_closed throws s h = sound_closing throws s s.current refl h
 
-none_closing : (throws : Throws) (s : Session) (o : Option Viewed) → s.current ≡ o → (option_map_or (ending throws s) o s).current ≡ None
+pub none_closing : (throws : Throws) (s : Session) (o : Option Viewed) → s.current ≡ o → (option_map_or (ending throws s) o s).current ≡ None
 none_closing throws s None is = is
 none_closing throws s (Some v) is = refl
 

@@ -6,7 +6,7 @@ use Rattle.rl_book_spec.specs.Traffic.{traffic_of}
 use Rattle.rl_book_spec.specs.declared.Call.{Call}
 use Rattle.rl_book_spec.specs.declared.Sent.{Sent}
 use Rattle.rl_steps.specs.declared.step.Step.TheVariants.{View}
-use Rattle.std.specs.Prelude.{⊤, IsUtf8, ◌≡◌, ◌++◌, List, Contains, IsTrue, map, option_to_list, slice_get, Some, Ok, ℕ}
+use Rattle.std.specs.Prelude.{⊤, IsUtf8, ◌≡◌, ◌++◌, List, Contains, IsTrue, map, option_to_list, slice_get, Option, Some, Ok, ℕ}
 use Rattle.rl_defs.specs.Catalogue.{Catalogue, IsCatalogue}
 use Rattle.rl_build.specs.Sight.{Sight, sight}
 use Rattle.rl_build.specs.declared.context.Context.{Context}
@@ -15,6 +15,7 @@ use Rattle.rl_pages.specs.declared.viewer.Viewer.{Viewer}
 use Rattle.rl_wire.specs.declared.part.Part.{Part}
 use Rattle.rl_wire.specs.Reading.{answer_of}
 use Rattle.rl_wiki.specs.Front.{wiki_answer}
+use Rattle.rl_book_spec.specs.Closing.{wire_of}
 use Rattle.rl_book_spec.specs.Given.{given_to}
 use Rattle.rl_book_spec.specs.Opening.{part_of}
 use Rattle.rl_book_spec.specs.declared.Mark.{Mark}
@@ -27,7 +28,7 @@ use Rattle.rl_view_spec.specs.Headline.{ReadyWhereGood, RunsOnceAndAfter}
 use Rattle.rl_view_spec.specs.View.{Throws, is_touched}
 use Rattle.rl_steps.specs.declared.step.Step.{Step}
 use Rattle.rl_stage_spec.specs.Replies.{events_in, view_in}
-use Rattle.rl_stage_spec.specs.Session.{Session, Viewed, Wired, base_of, body_of, session_of}
+use Rattle.rl_stage_spec.specs.Session.{Session, Viewed, Wired, base_of, body_of, session_of, vary_of}
 
 -- all views of a session, by number
 abbrev pub views_of : Session → List Viewed
@@ -93,6 +94,7 @@ pub record IsServed (s : Session) (number : ℕ) (v : Viewed) (part : Part) (mar
   pub wire : Wired
   pub kept : slice_get s.wires mark.answer ≡ Some wire
   pub own : wire.ask.view ≡ number
+  pub viewer : wire.ask.viewer ≡ v.viewer
   pub built : IsBuilt s.catalogue wire.entries v.viewer v.context part
 
 abbrev pub ServedIsBuilt : Type 0
@@ -102,6 +104,24 @@ ServedIsBuilt =
     → (name found version script styles : Text) (messages : List Message) (mark : Mark)
     → given_to v.opening v.past name ≡ Some (Impl found version script styles messages, origin.Wire mark)
     → IsServed (session_of throws c past) number v (Impl found version script styles messages) mark
+
+-- A part that a view took from the store was built when the wiki made the answer whose number the store kept with it: for the
+-- viewer of that answer's ask, in a context for which the same is stored.
+pub record WasStored (s : Session) (v : Viewed) (part : Part) (kept_number : Option ℕ) : Type 0 where
+  pub wire : Wired
+  pub mark : Mark
+  pub kept : slice_get s.wires mark.answer ≡ Some wire
+  pub number_is : kept_number ≡ wire_of mark
+  pub context : Context
+  pub alike : vary_of s.catalogue context ≡ vary_of s.catalogue v.context
+  pub built : IsBuilt s.catalogue wire.entries wire.ask.viewer context part
+
+abbrev pub StoredIsBuilt : Type 0
+StoredIsBuilt =
+    (throws : Throws) (c : Catalogue) (past : List Step) → IsCatalogue c → AllByRecursion OpensWithTexts past → (v : Viewed)
+    → Contains (views_of (session_of throws c past)) v
+    → (name : Text) (part : Part) (number : Option ℕ) → given_to v.opening v.past name ≡ Some (part, origin.Stored number)
+    → WasStored (session_of throws c past) v part number
 
 -- ---- what views are opened over
 
