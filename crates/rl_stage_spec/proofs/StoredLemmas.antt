@@ -21,8 +21,9 @@ use Rattle.rl_wire.specs.Line.{part_text}
 use Rattle.rl_wire.specs.Reading as wire
 use Rattle.rl_wire.specs.declared.part.Part.{Part}
 use Rattle.rl_wire.specs.declared.part.Part.TheVariants.{Impl, State}
+use Rattle.rl_book_spec.specs.Laws.{IsOfKey}
 use Rattle.rl_book_spec.specs.Book.{events_of}
-use Rattle.rl_book_spec.specs.Closing.{age_at, fresh_of, fresh_pairs, has_key, is_kept_group, is_key_of, is_ready, pairs_after, stored_before}
+use Rattle.rl_book_spec.specs.Closing.{age_at, fresh_of, fresh_pairs, has_key, is_kept_group, is_key_of, is_ready, key_bytes, pairs_after, stored_before}
 use Rattle.rl_book_spec.specs.Closing.{stored_from, wire_of}
 use Rattle.rl_book_spec.specs.Given.{given_at_touch, given_by, given_in, given_to, registered_after}
 use Rattle.rl_book_spec.specs.Opening.{part_of, stored_of, view_of}
@@ -56,6 +57,7 @@ record PairOk (c : Catalogue) (wires : List Wired) (vary : Text) (pair : Stored)
   context : Context
   alike : vary_of c context ≡ vary
   built : IsBuilt c wire.entries wire.ask.viewer context pair.part
+  of_key : IsOfKey pair
 
 abbrev PairsOk : Catalogue → List Wired → Text → List Stored → Type 0
 PairsOk c wires vary pairs = AllByRecursion (PairOk c wires vary) pairs
@@ -108,6 +110,7 @@ module _ (c : Catalogue) where
       context = h.0.context;
       alike = h.0.alike;
       built = h.0.built;
+      of_key = h.0.of_key;
     },
     pairs_more wires w vary pairs h.1,
   )
@@ -246,6 +249,7 @@ module _ (throws : Throws) (c : Catalogue) (past : List Step) (lawful : IsCatalo
           number_is = refl;
           context = v.context;
           alike = refl;
+          of_key = (script, styles, messages, refl);
           built =
               subst (λ (u : Viewer). IsBuilt c sv.wire.entries u v.context part) (sym sv.viewer)
               (subst (λ (d : Catalogue). IsBuilt d sv.wire.entries v.viewer v.context part) (catalogue_stays throws c past) sv.built);
@@ -319,6 +323,14 @@ all_found {X} P f (y ∷ ys) x h is = step (all_found P f ys x h.1) (f y) is
     step rest false e = rest e
 
 -- where a part was given from
+found_passes : {X : Type 0} (f : X → Bool) (xs : List X) (x : X) → find f xs ≡ Some x → f x ≡ true
+found_passes f [] x is = absurd (cc)
+found_passes {X} f (y ∷ ys) x is = step (found_passes f ys x) (f y) refl is
+  where
+    step : (find f ys ≡ Some x → f x ≡ true) → (b : Bool) → f y ≡ b → cond b (Some y) (find f ys) ≡ Some x → f x ≡ true
+    step rest true passes e = let same : y ≡ x = cc in subst (λ (z : X). f z ≡ true) same passes
+    step rest false passes e = rest e
+
 abbrev stored_number : Option (Part × Origin) → Option (Option ℕ)
 stored_number None = None
 stored_number (Some (part, origin.Stored number)) = Some number
@@ -328,54 +340,67 @@ stored_number (Some (part, origin.Wire mark)) = None
 abbrev given_part : Option (Part × Origin) → Option Part
 given_part given = option_map (λ (g : Part × Origin). g.0) given
 
-module _ (c : Catalogue) (wires : List Wired) (v : Viewed) (ok : ViewOk c wires v) (part : Part) (number : Option ℕ) where
+module _ (c : Catalogue) (wires : List Wired) (v : Viewed) (ok : ViewOk c wires v) (name : Text) (part : Part) (number : Option ℕ) where
   record Taken : Type 0 where
     pair : Stored
     pair_ok : PairOk c wires (vary_of c v.context) pair
     part_is : pair.part ≡ part
     number_is : pair.wire ≡ number
+    row : Row
+    named : row_of v.opening.registered name ≡ Some row
+    row_key : option_map (key_text row.name) row.version ≡ Some (key_bytes pair.key)
 
-  taken_pair : (pair : Stored) → PairOk c wires (vary_of c v.context) pair → Some (from_store pair) ≡ Some (part, origin.Stored number) → Taken
-  taken_pair pair h e =
-      let parts : Some pair.part ≡ Some part = ap given_part e in
-      let numbers : Some pair.wire ≡ Some number = ap stored_number e in
-      record { pair = pair; pair_ok = h; part_is = cc; number_is = cc }
+  module _ (row : Row) (named : row_of v.opening.registered name ≡ Some row) where
+    taken_pair : (pair : Stored) → PairOk c wires (vary_of c v.context) pair → option_map (key_text row.name) row.version ≡ Some (key_bytes pair.key)
+        → Some (from_store pair) ≡ Some (part, origin.Stored number) → Taken
+    taken_pair pair h key e =
+        let parts : Some pair.part ≡ Some part = ap given_part e in
+        let numbers : Some pair.wire ≡ Some number = ap stored_number e in
+        record { pair = pair; pair_ok = h; part_is = cc; number_is = cc; row = row; named = named; row_key = key }
 
-  from_pairs : (b : Bool) → v.opening.base.debug ≡ b → (version : Option Text) (name : Text) (o : Option Stored)
-      → (if b then None else option_and_then (λ (t : Text). find (λ (stored : Stored). bytes_eq (key_text stored.key.name stored.key.version) (key_text name t))
-      v.opening.stored) version) ≡ o
-      → option_map from_store o ≡ Some (part, origin.Stored number) → Taken
-  from_pairs b d version name None is e = absurd (cc)
-  from_pairs true d version name (Some pair) is e = absurd (cc)
-  from_pairs false d None name (Some pair) is e = absurd (cc)
-  from_pairs false d (Some version) name (Some pair) is e =
-      taken_pair pair (all_found (PairOk c wires (vary_of c v.context)) _ v.opening.stored pair (ok d) is) e
+    abbrev has_key_of : Text → Stored → Bool
+    has_key_of version stored = bytes_eq (key_text stored.key.name stored.key.version) (key_text row.name version)
 
-  at_touch : (row : Row) (found : Option Part) (b : Bool)
-      → option_or (option_map from_embedded found) (if b then None else option_map from_store (stored_of v.opening row)) ≡ Some (part, origin.Stored number)
-      → Taken
-  at_touch row (Some p) b e = absurd (let no_number : None ≡ Some number = ap stored_number e in cc)
-  at_touch row None true e = absurd (cc)
-  at_touch row None false e = from_pairs v.opening.base.debug refl row.version row.name (stored_of v.opening row) refl e
+    from_pairs : (b : Bool) → v.opening.base.debug ≡ b → (version : Option Text) → row.version ≡ version → (o : Option Stored)
+        → (if b then None else option_and_then (λ (t : Text). find (has_key_of t) v.opening.stored) version) ≡ o
+        → option_map from_store o ≡ Some (part, origin.Stored number) → Taken
+    from_pairs b d version versioned None is e = absurd (cc)
+    from_pairs true d version versioned (Some pair) is e = absurd (cc)
+    from_pairs false d None versioned (Some pair) is e = absurd (cc)
+    from_pairs false d (Some version) versioned (Some pair) is e =
+        let same : key_bytes pair.key ≡ key_text row.name version =
+        (bytes_eq-Decides (key_text pair.key.name pair.key.version) (key_text row.name version)).0
+        (found_passes (has_key_of version) v.opening.stored pair is) in
+        taken_pair pair (all_found (PairOk c wires (vary_of c v.context)) (has_key_of version) v.opening.stored pair (ok d) is)
+        (ap (option_map (key_text row.name)) versioned ∙ ap Some (sym same)) e
 
-  touched : (found : Option Row) → option_and_then (given_at_touch v.opening) found ≡ Some (part, origin.Stored number) → Taken
-  touched None e = absurd (cc)
-  touched (Some row) e = at_touch row (part_of v.opening.embedded row.name) (is_private row.group) e
+    at_touch : (found : Option Part) (b : Bool)
+        → option_or (option_map from_embedded found) (if b then None else option_map from_store (stored_of v.opening row))
+        ≡ Some (part, origin.Stored number)
+        → Taken
+    at_touch (Some p) b e = absurd (let no_number : None ≡ Some number = ap stored_number e in cc)
+    at_touch None true e = absurd (cc)
+    at_touch None false e = from_pairs v.opening.base.debug refl row.version refl (stored_of v.opening row) refl e
 
-  not_delivered : (name : Text) (read : Result (List Part) ℕ) (mark : Mark) → given_in name read (origin.Wire mark) ≡ Some (part, origin.Stored number) → ⊥
-  not_delivered name (Err line) mark e = cc
-  not_delivered name (Ok parts) mark e = step (part_of parts name) e
+  touched : (found : Option Row) → row_of v.opening.registered name ≡ found
+      → option_and_then (given_at_touch v.opening) found ≡ Some (part, origin.Stored number) → Taken
+  touched None is e = absurd (cc)
+  touched (Some row) is e = at_touch row is (part_of v.opening.embedded row.name) (is_private row.group) e
+
+  not_delivered : (read : Result (List Part) ℕ) (mark : Mark) → given_in name read (origin.Wire mark) ≡ Some (part, origin.Stored number) → ⊥
+  not_delivered (Err line) mark e = cc
+  not_delivered (Ok parts) mark e = step (part_of parts name) e
     where
       step : (found : Option Part) → option_map (from_there (origin.Wire mark)) found ≡ Some (part, origin.Stored number) → ⊥
       step None e = cc
       step (Some p) e = let no_number : None ≡ Some number = ap stored_number e in cc
 
-  by_call : (call : Call) (name : Text) → given_by v.opening call name ≡ Some (part, origin.Stored number) → Taken
-  by_call (calls.Using names) name e = touched (row_of v.opening.registered name) e
-  by_call (calls.Load names) name e = touched (row_of v.opening.registered name) e
-  by_call calls.Take name e = absurd (cc)
-  by_call (calls.Deliver ask bytes mark) name e = absurd (not_delivered name (wire.answer_of bytes) mark e)
-  by_call (calls.Lose ask mark) name e = absurd (cc)
+  by_call : (call : Call) → given_by v.opening call name ≡ Some (part, origin.Stored number) → Taken
+  by_call (calls.Using names) e = touched (row_of v.opening.registered name) refl e
+  by_call (calls.Load names) e = touched (row_of v.opening.registered name) refl e
+  by_call calls.Take e = absurd (cc)
+  by_call (calls.Deliver ask bytes mark) e = absurd (not_delivered (wire.answer_of bytes) mark e)
+  by_call (calls.Lose ask mark) e = absurd (cc)
 
 current_ok : (c : Catalogue) (wires : List Wired) (vary : Text) (o : Option Viewed) → IfSome o (OpenOk c wires vary) → IfSome o (ViewOk c wires)
 current_ok c wires vary None h = tt
@@ -387,7 +412,7 @@ stored_is_built throws c past lawful texts v there name part number given =
     let h = ok_session throws c past lawful texts in
     let ok : ViewOk c s.wires v = among (ViewOk c s.wires) s.ended s.current v h.ended (current_ok c s.wires s.store.vary s.current h.current) there in
     let by = given_by_call v.opening name v.past (part, origin.Stored number) given in
-    let taken = by_call c s.wires v ok part number by.0 name by.2 in
+    let taken = by_call c s.wires v ok name part number by.0 by.2 in
     let same : c ≡ s.catalogue = sym (catalogue_stays throws c past) in
     record {
       wire = taken.pair_ok.wire;
@@ -395,6 +420,12 @@ stored_is_built throws c past lawful texts v there name part number given =
       kept = taken.pair_ok.kept;
       number_is = sym taken.number_is ∙ taken.pair_ok.number_is;
       context = taken.pair_ok.context;
+      stored = taken.pair;
+      part_is = taken.part_is;
+      of_key = taken.pair_ok.of_key;
+      row = taken.row;
+      named = taken.named;
+      row_key = taken.row_key;
       alike = subst (λ (d : Catalogue). vary_of d taken.pair_ok.context ≡ vary_of d v.context) same taken.pair_ok.alike;
       built =
           subst (λ (d : Catalogue). IsBuilt d taken.pair_ok.wire.entries taken.pair_ok.wire.ask.viewer taken.pair_ok.context part) same

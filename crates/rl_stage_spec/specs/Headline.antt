@@ -6,7 +6,7 @@ use Rattle.rl_book_spec.specs.Traffic.{traffic_of}
 use Rattle.rl_book_spec.specs.declared.Call.{Call}
 use Rattle.rl_book_spec.specs.declared.Sent.{Sent}
 use Rattle.rl_steps.specs.declared.step.Step.TheVariants.{View}
-use Rattle.std.specs.Prelude.{⊤, IsUtf8, ◌≡◌, ◌++◌, List, Contains, IsTrue, map, option_to_list, slice_get, Option, Some, Ok, ℕ}
+use Rattle.std.specs.Prelude.{⊤, IsUtf8, ◌≡◌, ◌++◌, List, Contains, IsTrue, map, option_map, option_to_list, slice_get, Option, Some, Ok, ℕ}
 use Rattle.rl_defs.specs.Catalogue.{Catalogue, IsCatalogue}
 use Rattle.rl_build.specs.Sight.{Sight, sight}
 use Rattle.rl_build.specs.declared.context.Context.{Context}
@@ -15,7 +15,11 @@ use Rattle.rl_pages.specs.declared.viewer.Viewer.{Viewer}
 use Rattle.rl_wire.specs.declared.part.Part.{Part}
 use Rattle.rl_wire.specs.Reading.{answer_of}
 use Rattle.rl_wiki.specs.Front.{wiki_answer}
-use Rattle.rl_book_spec.specs.Closing.{wire_of}
+use Rattle.rl_names.specs.Name.{key_text}
+use Rattle.rl_names.specs.declared.row.Row.{Row}
+use Rattle.rl_book_spec.specs.Closing.{key_bytes, wire_of}
+use Rattle.rl_book_spec.specs.Laws.{IsOfKey}
+use Rattle.rl_book_spec.specs.declared.Stored.{Stored}
 use Rattle.rl_book_spec.specs.Given.{given_to}
 use Rattle.rl_book_spec.specs.Opening.{part_of}
 use Rattle.rl_book_spec.specs.declared.Mark.{Mark}
@@ -23,7 +27,7 @@ use Rattle.rl_book_spec.specs.declared.Origin.TheVariants as origin
 use Rattle.rl_loadphp.specs.Body.{implementation_of, implementations}
 use Rattle.rl_loadphp.specs.Embed.{private_names}
 use Rattle.rl_startup.specs.Registry.{start_of}
-use Rattle.rl_view_spec.specs.Closure.{Text}
+use Rattle.rl_view_spec.specs.Closure.{Text, row_of}
 use Rattle.rl_view_spec.specs.Headline.{ReadyWhereGood, RunsOnceAndAfter}
 use Rattle.rl_view_spec.specs.View.{Throws, is_touched}
 use Rattle.rl_steps.specs.declared.step.Step.{Step}
@@ -106,8 +110,8 @@ ServedIsBuilt =
     → IsServed (session_of throws c past) number v (Impl found version script styles messages) mark
 
 -- A part that a view took from the store was built when the wiki made the answer whose number the store kept with it: for the
--- viewer of that answer's ask, in a context for which the same is stored.
-pub record WasStored (s : Session) (v : Viewed) (part : Part) (kept_number : Option ℕ) : Type 0 where
+-- viewer of that answer's ask, in a context for which the same is stored. Its key is that of the row.
+pub record WasStored (s : Session) (v : Viewed) (name : Text) (part : Part) (kept_number : Option ℕ) : Type 0 where
   pub wire : Wired
   pub mark : Mark
   pub kept : slice_get s.wires mark.answer ≡ Some wire
@@ -115,13 +119,19 @@ pub record WasStored (s : Session) (v : Viewed) (part : Part) (kept_number : Opt
   pub context : Context
   pub alike : vary_of s.catalogue context ≡ vary_of s.catalogue v.context
   pub built : IsBuilt s.catalogue wire.entries wire.ask.viewer context part
+  pub stored : Stored
+  pub part_is : stored.part ≡ part
+  pub of_key : IsOfKey stored
+  pub row : Row
+  pub named : row_of v.opening.registered name ≡ Some row
+  pub row_key : option_map (key_text row.name) row.version ≡ Some (key_bytes stored.key)
 
 abbrev pub StoredIsBuilt : Type 0
 StoredIsBuilt =
     (throws : Throws) (c : Catalogue) (past : List Step) → IsCatalogue c → AllByRecursion OpensWithTexts past → (v : Viewed)
     → Contains (views_of (session_of throws c past)) v
     → (name : Text) (part : Part) (number : Option ℕ) → given_to v.opening v.past name ≡ Some (part, origin.Stored number)
-    → WasStored (session_of throws c past) v part number
+    → WasStored (session_of throws c past) v name part number
 
 -- ---- what views are opened over
 
