@@ -1,6 +1,6 @@
 -- What the views of a session are opened over, and what holds of them.
 use Rattle.std.proofs.Common.{◌≡◌, zero, suc, Bool, true, false, List, [], ◌∷◌, ◌++◌, map, Option, Some, None, refl, sym, ap, subst, ◌∙◌, arith}
-use Rattle.std.specs.Prelude.{⊤, if◌then◌else◌, Contains, IfSome, Result, Ok, Err, is_none, option_map, option_to_list, slice_get, ◌&&◌}
+use Rattle.std.specs.Prelude.{IsTrue, ⊤, if◌then◌else◌, Contains, IfSome, Result, Ok, Err, is_none, option_map, option_to_list, slice_get, ◌&&◌}
 use Rattle.std.specs.List.{AllByRecursion}
 use Rattle.std.specs.Option.{option_map_or}
 use Rattle.rl_names.specs.declared.row.Row.{Row}
@@ -22,15 +22,19 @@ use Rattle.rl_startup.proofs.FineLemmas.{once_of}
 use Rattle.rl_startup.proofs.RegistryLemmas.{names_ascend}
 use Rattle.rl_startup.proofs.RowsLemmas.{rows_are_lawful}
 use Rattle.rl_view_spec.specs.Closure.{Text, refusal_of}
-use Rattle.rl_view_spec.specs.Progress.{HasDistinctNames}
-use Rattle.rl_view_spec.specs.View.{Throws}
+use Rattle.rl_view_spec.specs.Progress.{HasDistinctNames, name_at}
+use Rattle.rl_view_spec.specs.Keys.{never}
+use Rattle.rl_view_spec.specs.View.{Throws, Answer, Implementation, Missing, Failed, GivenUp, first_of, is_implementation}
+use Rattle.rl_view_spec.proofs.AfterLemmas.{logged_belongs}
+use Rattle.rl_view_spec.proofs.ObservedLemmas.{first_same}
+use Rattle.rl_book_spec.proofs.GivenLemmas.{given_outcome}
 use Rattle.rl_view_spec.proofs.StatesLemmas.{headline}
 use Rattle.rl_book_spec.proofs.LawfulLemmas.{books_lawful}
 use Rattle.rl_book_spec.specs.declared.Call.{Call}
 use Rattle.rl_book_spec.specs.declared.Call.TheVariants as calls
 use Rattle.rl_steps.specs.declared.step.Step.{Step}
 use Rattle.rl_steps.specs.declared.step.Step.TheVariants.{Edit, Choice, Clock, View, Using, Load, Take, Serve, Deliver, Lose, Close, Embed}
-use Rattle.rl_stage_spec.specs.Headline.{IsOver, SessionsHold, ViewsAreOver, views_of}
+use Rattle.rl_stage_spec.specs.Headline.{IsOver, RunsAreGiven, SessionsHold, ViewsAreOver, views_of}
 use Rattle.rl_stage_spec.specs.Replies.{events_in, view_in}
 use Rattle.rl_stage_spec.specs.Session.{Asking, Ended, Session, Viewed, Wired, asking_by, choice_by, closed, delivering, edit_by, ending, first_waiting}
 use Rattle.rl_stage_spec.specs.Session.{is_current, losing, losing_by, may_lose, serving, session_after, session_of, taking, using_by}
@@ -238,3 +242,24 @@ sessions_hold throws c past lawful v there =
     (start_distinct c lawful v.entries v.viewer v.context v.opening.registered.features) in
     let held = headline (view_in throws v) (events_in v) distinct (books_lawful throws v.opening v.past) in
     record { runs = held.0; ready = held.1 }
+
+-- ---- what executed was given
+
+implementation_there : (found : Option Answer) → IsTrue (is_implementation found) → (version script : Text) × (found ≡ Some (Implementation version script))
+implementation_there None h = absurd (cc)
+implementation_there (Some (Implementation version script)) h = (version, script, refl)
+implementation_there (Some Missing) h = absurd (cc)
+implementation_there (Some Failed) h = absurd (cc)
+implementation_there (Some GivenUp) h = absurd (cc)
+
+pub runs_are_given : RunsAreGiven
+runs_are_given throws c past lawful v there row ran =
+    let over = views_over throws c past v there in
+    let distinct : HasDistinctNames v.opening.registered =
+    subst (λ (rows : List Row). HasDistinctNames (record { rows = rows; features = v.opening.registered.features })) (sym over.rows)
+    (start_distinct c lawful v.entries v.viewer v.context v.opening.registered.features) in
+    let name = name_at v.opening.registered row in
+    let belongs = logged_belongs (view_in throws v) (events_in v) row (books_lawful throws v.opening v.past) ran in
+    let answer = implementation_there (first_of (view_in throws v) (events_in v) name) belongs.answered in
+    let given = given_outcome v.opening v.past name answer.0 answer.1 distinct (sym (first_same (view_in throws v) never (events_in v) name) ∙ answer.2) in
+    (given.0, answer.0, answer.1, given.1, given.2)

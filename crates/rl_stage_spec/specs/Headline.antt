@@ -22,6 +22,8 @@ use Rattle.rl_book_spec.specs.Laws.{IsOfKey}
 use Rattle.rl_book_spec.specs.declared.Stored.{Stored}
 use Rattle.rl_book_spec.specs.Given.{given_to}
 use Rattle.rl_book_spec.specs.Opening.{part_of}
+use Rattle.rl_book_spec.specs.Opening.{answer_of as said_of}
+use Rattle.rl_book_spec.specs.declared.Origin.{Origin}
 use Rattle.rl_book_spec.specs.declared.Mark.{Mark}
 use Rattle.rl_book_spec.specs.declared.Origin.TheVariants as origin
 use Rattle.rl_loadphp.specs.Body.{implementation_of, implementations}
@@ -29,7 +31,8 @@ use Rattle.rl_loadphp.specs.Embed.{private_names}
 use Rattle.rl_startup.specs.Registry.{start_of}
 use Rattle.rl_view_spec.specs.Closure.{Text, row_of}
 use Rattle.rl_view_spec.specs.Headline.{ReadyWhereGood, RunsOnceAndAfter}
-use Rattle.rl_view_spec.specs.View.{Throws, is_touched}
+use Rattle.rl_view_spec.specs.Progress.{name_at}
+use Rattle.rl_view_spec.specs.View.{Throws, Implementation, is_touched, log_of}
 use Rattle.rl_steps.specs.declared.step.Step.{Step}
 use Rattle.rl_stage_spec.specs.Replies.{events_in, view_in}
 use Rattle.rl_stage_spec.specs.Session.{Session, Viewed, Wired, base_of, body_of, session_of, vary_of}
@@ -56,6 +59,15 @@ SessionsHold =
 -- what the wiki of this history builds of a module for a viewer, in a context: all that the module brings, under the hash of that
 abbrev pub IsBuilt : Catalogue → List Entry → Viewer → Context → Part → Type 0
 IsBuilt c entries viewer ctx part = (name : Text) × (implementation_of (sight c entries viewer) ctx name ≡ Some part)
+
+-- each row of a view that executed was given an implementation, embedded, by an answer or from the store: of such parts the
+-- statements below speak
+abbrev pub RunsAreGiven : Type 0
+RunsAreGiven =
+    (throws : Throws) (c : Catalogue) (past : List Step) → IsCatalogue c → (v : Viewed) → Contains (views_of (session_of throws c past)) v
+    → (row : ℕ) → Contains (log_of (view_in throws v) (events_in v)) row
+    → (given : Part × Origin) × (version script : Text)
+    × (given_to v.opening v.past (name_at v.opening.registered row) ≡ Some given) × (said_of given.0 ≡ Implementation version script)
 
 -- a part that was embedded in a page was built when the view was opened
 abbrev pub EmbeddedIsBuilt : Type 0
