@@ -1,0 +1,5 @@
+pub mod Headline
+pub mod Replay
+pub mod Replies
+pub mod Session
+pub mod Summary
