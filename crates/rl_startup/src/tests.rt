@@ -2,8 +2,9 @@
 use crate::{rows, startup_text};
 use rl_build::Context;
 use rl_defs::Catalog;
-use rl_names::{NoMemory, Text};
+use rl_names::{NoMemory, Row, Text};
 use rl_pages::{Pages, Viewer};
+use rl_wire::read_startup;
 use std::alloc::Global;
 use std::test::Fail;
 
@@ -76,5 +77,51 @@ const STARTUP_OF_GROUPS: &str =
 fn startup_of_groups(rt: HostRuntime) -> Result<(), Fail> {
     let catalog = Catalog::read(rt.alloc(), GROUPS.as_bytes())?;
     assert_eq!(rt; text_of(rt.alloc(), &catalog)?.as_str(), STARTUP_OF_GROUPS);
+    Ok(())
+}
+
+/// How many modules definitions may have.
+const MOST: usize = 3_500;
+
+/// Definitions of the most modules, each of which needs the two behind it.
+fn most_modules(alloc: Global) -> Result<String, Fail> {
+    let mut text = String::new(alloc);
+    for at in 0..MOST {
+        let number = at + 1_000;
+        text.push_str(format!(in alloc; "[modules.m{number}]\n")?.as_str())?;
+        if at + 2 < MOST {
+            let first = number + 1;
+            let second = number + 2;
+            text.push_str(format!(in alloc;
+                "dependencies = [\"m{first}\", \"m{second}\"]\n"
+            )?.as_str())?;
+        }
+    }
+    Ok(text)
+}
+
+/// How many of these rows have one dependency.
+fn needing_one(rows: &[Row]) -> usize {
+    rows.iter()
+        .filter(|row| row.deps.as_slice().len() == 1)
+        .count()
+}
+
+/// How many rows the startup text of the most modules has, and how many of these have one dependency.
+fn rows_of_most(alloc: Global) -> Result<(usize, usize), Fail> {
+    let catalog = Catalog::read(alloc, most_modules(alloc)?.as_bytes())?;
+    let text = text_of(alloc, &catalog)?;
+    let said = read_startup(alloc, text.as_bytes())?;
+    let rows = said.rows.as_slice();
+    Ok((rows.len(), needing_one(rows)))
+}
+
+/// What a module needs beside the one behind it is brought by that one, but for the last that needs two. The built-in modules
+/// have rows too, of which `site` needs one.
+#[test]
+fn startup_of_the_most_modules(rt: HostRuntime) -> Result<(), Fail> {
+    let (rows, needing_one) = rows_of_most(rt.alloc())?;
+    assert_eq!(rt; rows, 3_505);
+    assert_eq!(rt; needing_one, 3_498);
     Ok(())
 }
