@@ -5,6 +5,7 @@ ghost use Rattle.rl_batch.specs.Given.{IsBase};
 mod book;
 mod due;
 mod page;
+mod stored;
 
 use crate::{DeliverError, LoseRefusal, Lost, Mark, OpenError, Plan, Took, Visit};
 use rl_base::Hears;

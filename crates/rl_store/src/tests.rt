@@ -146,6 +146,13 @@ fn shown(alloc: Global, store: &Store) -> Result<String, Fail> {
     Ok(text)
 }
 
+/// The number of the pair under the key of a name and a version.
+fn place(alloc: Global, store: &Store, name: &str, version: &str) -> Result<Option<u32>, Fail> {
+    let version = Version::read(version.as_bytes()).ok_or("a version")?;
+    let name = Name::read(alloc, name.as_bytes())?;
+    Ok(store.place(&name, &version))
+}
+
 #[test]
 fn after_views(rt: HostRuntime) -> Result<(), Fail> {
     let alloc = rt.alloc();
@@ -169,6 +176,8 @@ fn after_views(rt: HostRuntime) -> Result<(), Fail> {
         shown(alloc, &store)?.as_str(),
         "a@aaaaa a() Some(7)\nb@bbbbb b() Some(7)\n"
     );
+    assert!(rt; place(alloc, &store, "b", "bbbbb")? == Some(1));
+    assert!(rt; place(alloc, &store, "b", "aaaaa")?.is_none());
     let later = registry(alloc, &[("b", "ccccc"), ("a", "aaaaa")])?;
     let store = closed(
         alloc,
