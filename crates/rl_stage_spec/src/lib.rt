@@ -3,6 +3,7 @@
 
 ghost use Rattle.rl_stage_spec.specs.Headline.{EmbeddedIsBuilt, PartsComeByAnswers, RunsAreGiven, ServedIsBuilt, SessionsHold};
 ghost use Rattle.rl_stage_spec.specs.Headline.{StoredIsBuilt, ViewsAreOver};
+ghost use Rattle.rl_stage_spec.specs.Shared.{ReadHasSkins, SharedIsForAll, VaryTells};
 
 /// Of every session over lawful definitions, whatever its steps: in each view no module runs twice, each runs after all else
 /// that it needs, and a touched name is ready exactly where all of its closure is good. Each view is opened over what the wiki
@@ -20,4 +21,13 @@ pub fn session_laws()
     ensures answers { PartsComeByAnswers }
     ensures served { ServedIsBuilt }
     ensures stored { StoredIsBuilt }
+{}
+
+/// What is stored serves every viewer: of a module whose group is neither `user` nor `private` the same is built for each of
+/// them in all contexts of one skin, and contexts for which the same is stored have one skin and one language, since no skin
+/// of a definitions file that was read has a bar.
+pub fn shared_laws()
+    ensures skins { ReadHasSkins }
+    ensures vary { VaryTells }
+    ensures shared { SharedIsForAll }
 {}
