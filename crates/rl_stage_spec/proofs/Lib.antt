@@ -1,5 +1,6 @@
 pub mod AnswersLemmas
 pub mod BuiltLemmas
+pub mod KeptLemmas
 pub mod OriginLemmas
 pub mod ReadLemmas
 pub mod ServedLemmas

@@ -11,8 +11,8 @@ ghost use Rattle.rl_stage_spec.specs.Shared.{ReadHasSkins, SharedIsForAll, VaryT
 ///
 /// What executes was given to its row. What was embedded was built when the view was opened. What came by an answer stands in
 /// what the wiki said, at one moment, to an ask of that very view, and was built at that moment for the view's viewer and
-/// context. What a view took from the store, under the key of the row, was built when the wiki made the answer that it came
-/// with, for whoever asked, in a context for which the same is stored.
+/// context. What a view took from the store, under the key of the row, is what the wiki built for the view's own viewer and
+/// context when it made the answer that the part came with, whoever had asked.
 pub fn session_laws()
     ensures hold { SessionsHold }
     ensures over { ViewsAreOver }
