@@ -140,16 +140,16 @@ context_again c lang skin debug =
 
 -- ---- the context and the viewer of each view are texts
 
-record IsTold (c : Catalogue) (v : Viewed) : Type 0 where
-  lang : Text
-  skin : Text
-  debug : Bool
-  context_is : v.context ≡ context_of c lang skin debug
-  lang_text : IsUtf8 v.context.lang
-  skin_text : IsUtf8 v.context.skin
-  user_text : IsUtf8 (name_of v.viewer)
+pub record IsTold (c : Catalogue) (v : Viewed) : Type 0 where
+  pub lang : Text
+  pub skin : Text
+  pub debug : Bool
+  pub context_is : v.context ≡ context_of c lang skin debug
+  pub lang_text : IsUtf8 v.context.lang
+  pub skin_text : IsUtf8 v.context.skin
+  pub user_text : IsUtf8 (name_of v.viewer)
 
-told_stays : (c : Catalogue) (v : Viewed) (past : List Call) → IsTold c v → IsTold c (record v { past = past })
+pub told_stays : (c : Catalogue) (v : Viewed) (past : List Call) → IsTold c v → IsTold c (record v { past = past })
 told_stays c v past h = record {
   lang = h.lang;
   skin = h.skin;
@@ -196,14 +196,14 @@ told_step throws c s (Lose ask) same h = tt
 told_step throws c s Close same h = tt
 told_step throws c s (Embed text) same h = tt
 
-told_all : (throws : Throws) (c : Catalogue) (past : List Step) → AllByRecursion OpensWithTexts past → AllOpen (IsTold c) (told_stays c) throws c past
+pub told_all : (throws : Throws) (c : Catalogue) (past : List Step) → AllByRecursion OpensWithTexts past → AllOpen (IsTold c) (told_stays c) throws c past
 told_all throws c [] h = tt
 told_all throws c (step ∷ past) h =
     (told_step throws c (session_of throws c past) step (catalogue_stays throws c past) h.0, told_all throws c past h.1)
 
 -- ---- what came by answers
 
-there_is : {X : Type 0} (xs : List X) (number : ℕ) (x : X) → slice_get xs number ≡ Some x → Contains xs x
+pub there_is : {X : Type 0} (xs : List X) (number : ℕ) (x : X) → slice_get xs number ≡ Some x → Contains xs x
 there_is [] number x is = absurd (cc)
 there_is (y ∷ ys) zero x is = let same : y ≡ x = cc in (0, omega arith, same)
 there_is (y ∷ ys) (suc number) x is = let later = there_is ys number x is in (suc later.0, omega (arith, later.1), later.2)

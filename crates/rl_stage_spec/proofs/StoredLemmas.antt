@@ -2,7 +2,7 @@
 use Rattle.std.proofs.Common.{◌≡◌, ℕ, Bool, true, false, List, [], ◌∷◌, ◌++◌, map, length, Option, Some, None, bytes_eq, cond, find}
 use Rattle.std.proofs.Common.{refl, sym, ap, subst, ◌∙◌, nat_le}
 use Rattle.std.specs.Prelude.{if◌then◌else◌, not, ◌&&◌, IfSome, Result, Ok, Err, is_none, option_and_then, option_map, option_to_list}
-use Rattle.std.specs.Prelude.{slice_get}
+use Rattle.std.specs.Prelude.{Contains, slice_get}
 use Rattle.std.specs.List.{AllByRecursion, cons_option, filter_map}
 use Rattle.std.specs.Option.{option_map_or, option_or}
 use Rattle.std.proofs.lemmas.Slice.Eq.{bytes_eq-Decides}
@@ -26,7 +26,7 @@ use Rattle.rl_book_spec.specs.Book.{events_of}
 use Rattle.rl_book_spec.specs.Closing.{age_at, fresh_of, fresh_pairs, has_key, is_kept_group, is_key_of, is_ready, key_bytes, pairs_after, stored_before}
 use Rattle.rl_book_spec.specs.Closing.{stored_from, wire_of}
 use Rattle.rl_book_spec.specs.Given.{given_at_touch, given_by, given_in, given_to, registered_after}
-use Rattle.rl_book_spec.specs.Opening.{part_of, stored_of, view_of}
+use Rattle.rl_book_spec.specs.Opening.{part_name, part_of, stored_of, view_of}
 use Rattle.rl_book_spec.specs.declared.Call.{Call}
 use Rattle.rl_book_spec.specs.declared.Call.TheVariants as calls
 use Rattle.rl_book_spec.specs.declared.Mark.{Mark}
@@ -38,14 +38,22 @@ use Rattle.rl_store.specs.declared.note.Note.{Note}
 use Rattle.rl_store.specs.declared.note.Note.TheVariants as note
 use Rattle.rl_steps.specs.declared.step.Step.{Step}
 use Rattle.rl_steps.specs.declared.step.Step.TheVariants.{Edit, Choice, Clock, View, Using, Load, Take, Serve, Deliver, Lose, Close, Embed}
-use Rattle.rl_stage_spec.specs.Headline.{IsBuilt, IsServed, OpensWithTexts, StoredIsBuilt}
+use Rattle.rl_build.specs.Payload.{payload_of}
+use Rattle.rl_build.specs.Sheet.{sheet_of}
+use Rattle.rl_build.specs.Sight.{sight}
+use Rattle.rl_stage_spec.specs.Headline.{IsBuilt, IsServed, OpensWithTexts, StoredIsBuilt, views_of}
+use Rattle.rl_stage_spec.specs.Shared.{IsContext}
+use Rattle.rl_stage_spec.proofs.AnswersLemmas.{parts_come_by_answers}
+use Rattle.rl_stage_spec.proofs.KeptLemmas.{IsSharedIfKept, IsSharedName, built_named, part_named, start_shared}
+use Rattle.rl_stage_spec.proofs.SharedLemmas.{shared_is_for_all}
+use Rattle.rl_stage_spec.proofs.VaryLemmas.{vary_tells}
 use Rattle.rl_stage_spec.specs.Session.{Asking, Ended, Session, Viewed, Wired, asking_by, choice_by, closed, delivering, edit_by, ending, first_waiting}
 use Rattle.rl_stage_spec.specs.Session.{is_current, losing, losing_by, may_lose, opened, serving, session_after, session_of, store_for, taking, using_by}
 use Rattle.rl_stage_spec.specs.Session.{vary_of, viewer_by, wire_for, with_call, with_entry}
-use Rattle.rl_stage_spec.proofs.BuiltLemmas.{served_is_built}
+use Rattle.rl_stage_spec.proofs.BuiltLemmas.{IsTold, served_is_built, there_is, told_all, told_stays}
 use Rattle.rl_stage_spec.proofs.OriginLemmas.{from_embedded, from_store, from_there, given_by_call}
 use Rattle.rl_stage_spec.proofs.QueriesLemmas.{all_append, all_filter, all_sorted}
-use Rattle.rl_stage_spec.proofs.ViewsLemmas.{among, catalogue_stays, one_more, same_closed}
+use Rattle.rl_stage_spec.proofs.ViewsLemmas.{among, catalogue_stays, each_view, one_more, same_closed, views_over}
 use Rattle.rl_stage_spec.proofs.WiresLemmas.{get_more}
 
 -- a pair of the store, for this vary text, was built when the answer was made that it came with
@@ -55,8 +63,10 @@ record PairOk (c : Catalogue) (wires : List Wired) (vary : Text) (pair : Stored)
   kept : slice_get wires mark.answer ≡ Some wire
   number_is : pair.wire ≡ wire_of mark
   context : Context
+  has : IsContext c context
   alike : vary_of c context ≡ vary
   built : IsBuilt c wire.entries wire.ask.viewer context pair.part
+  everyone : (other : Viewer) (like : Context) → context.skin ≡ like.skin → IsBuilt c wire.entries other like pair.part
   of_key : IsOfKey pair
 
 abbrev PairsOk : Catalogue → List Wired → Text → List Stored → Type 0
@@ -108,8 +118,10 @@ module _ (c : Catalogue) where
       kept = get_more wires w h.0.mark.answer h.0.wire h.0.kept;
       number_is = h.0.number_is;
       context = h.0.context;
+      has = h.0.has;
       alike = h.0.alike;
       built = h.0.built;
+      everyone = h.0.everyone;
       of_key = h.0.of_key;
     },
     pairs_more wires w vary pairs h.1,
@@ -215,14 +227,14 @@ module _ (c : Catalogue) where
 
 -- ---- what a view adds
 
-all_mapped : {X Y : Type 0} (f : X → Option Y) (P : Y → Type 0) → ((x : X) (y : Y) → f x ≡ Some y → P y) → (xs : List X)
-    → AllByRecursion P (filter_map f xs)
-all_mapped f P holds [] = tt
-all_mapped {X} {Y} f P holds (x ∷ xs) = step (all_mapped f P holds xs) (f x) refl
+all_mapped : {X Y : Type 0} (f : X → Option Y) (Q : X → Type 0) (P : Y → Type 0) → ((x : X) (y : Y) → Q x → f x ≡ Some y → P y) → (xs : List X)
+    → AllByRecursion Q xs → AllByRecursion P (filter_map f xs)
+all_mapped f Q P holds [] qs = tt
+all_mapped {X} {Y} f Q P holds (x ∷ xs) qs = step (all_mapped f Q P holds xs qs.1) (f x) refl
   where
     step : AllByRecursion P (filter_map f xs) → (o : Option Y) → f x ≡ o → AllByRecursion P (cons_option o (filter_map f xs))
     step rest None is = rest
-    step rest (Some y) is = (holds x y is, rest)
+    step rest (Some y) is = (holds x y qs.0 is, rest)
 
 last_view : (es : List Ended) (o : Option Viewed) (v : Viewed) → o ≡ Some v
     → slice_get (map (λ (e : Ended). e.view) es ++ option_to_list o) (length es) ≡ Some v
@@ -237,49 +249,76 @@ module _ (throws : Throws) (c : Catalogue) (past : List Step) (lawful : IsCatalo
     abbrev Fresh : Stored → Type 0
     Fresh = PairOk c now.wires (vary_of c v.context)
 
-    fresh_served : (n version script styles : Text) (messages : List Message) (mark : Mark)
+    at_end : slice_get (views_of now) (length now.ended) ≡ Some v
+    at_end = last_view now.ended now.current v is
+
+    there : Contains (views_of now) v
+    there = there_is (views_of now) (length now.ended) v at_end
+
+    has_context : IsContext c v.context
+    has_context =
+        let told = each_view (IsTold c) (told_stays c) throws c past (told_all throws c past texts) v there in
+        (told.lang, told.skin, told.debug, told.context_is)
+
+    -- what is built of a shared name for the view is built so for everyone
+    for_everyone : (entries : List Entry) (name : Text) (part : Part) → IsSharedName c name → part_name part ≡ name
+        → IsBuilt c entries v.viewer v.context part → (other : Viewer) (like : Context) → v.context.skin ≡ like.skin → IsBuilt c entries other like part
+    for_everyone entries name part (sheet, found, kept) named (from, is_built) other like same =
+        let from_is : name ≡ from = sym named ∙ built_named from (payload_of (sight c entries v.viewer) v.context from) part is_built in
+        let of_from : sheet_of (sight c entries v.viewer) v.context from ≡ Some sheet =
+        subst (λ (n : Text). sheet_of (sight c entries v.viewer) v.context n ≡ Some sheet) from_is found in
+        (from, sym (shared_is_for_all c entries v.viewer other v.context like same from sheet of_from kept) ∙ is_built)
+
+    fresh_served : (name : Text) → IsSharedName c name → (n version script styles : Text) (messages : List Message) (mark : Mark) → n ≡ name
         → IsServed now (length now.ended) v (Impl n version script styles messages) mark
         → Fresh (record { key = record { name = n; version = version }; part = Impl n version script styles messages; wire = wire_of mark })
-    fresh_served n version script styles messages mark sv =
+    fresh_served name shared n version script styles messages mark named sv =
         let part = Impl n version script styles messages in
+        let for_view : IsBuilt c sv.wire.entries v.viewer v.context part =
+        subst (λ (d : Catalogue). IsBuilt d sv.wire.entries v.viewer v.context part) (catalogue_stays throws c past) sv.built in
         record {
           wire = sv.wire;
           mark = mark;
           kept = sv.kept;
           number_is = refl;
           context = v.context;
+          has = has_context;
           alike = refl;
           of_key = (script, styles, messages, refl);
-          built =
-              subst (λ (u : Viewer). IsBuilt c sv.wire.entries u v.context part) (sym sv.viewer)
-              (subst (λ (d : Catalogue). IsBuilt d sv.wire.entries v.viewer v.context part) (catalogue_stays throws c past) sv.built);
+          built = subst (λ (u : Viewer). IsBuilt c sv.wire.entries u v.context part) (sym sv.viewer) for_view;
+          everyone = for_everyone sv.wire.entries name part shared named for_view;
         }
 
     by_length : (b : Bool) (made pair : Stored) → (if b then Some made else None) ≡ Some pair → Fresh made → Fresh pair
     by_length true made pair e h = let same : made ≡ pair = cc in subst Fresh same h
     by_length false made pair e h = absurd (cc)
 
-    from_given : (row : Row) (pair : Stored) (g : Option (Part × Origin)) → given_to v.opening v.past row.name ≡ g
+    from_given : (row : Row) (pair : Stored) → IsSharedName c row.name → (g : Option (Part × Origin)) → given_to v.opening v.past row.name ≡ g
         → option_and_then stored_from g ≡ Some pair → Fresh pair
-    from_given row pair None given e = absurd (cc)
-    from_given row pair (Some (State name kind, from)) given e = absurd (cc)
-    from_given row pair (Some (Impl n version script styles messages, origin.Embedded)) given e = absurd (cc)
-    from_given row pair (Some (Impl n version script styles messages, origin.Stored number)) given e = absurd (cc)
-    from_given row pair (Some (Impl n version script styles messages, origin.Wire mark)) given e =
-        by_length (nat_le (length (part_text (Impl n version script styles messages))) 100000) _ pair e
-        (fresh_served n version script styles messages mark
-        (served_is_built throws c past lawful texts (length now.ended) v (last_view now.ended now.current v is) row.name n version script styles messages
-        mark given))
+    from_given row pair shared None given e = absurd (cc)
+    from_given row pair shared (Some (State name kind, from)) given e = absurd (cc)
+    from_given row pair shared (Some (Impl n version script styles messages, origin.Embedded)) given e = absurd (cc)
+    from_given row pair shared (Some (Impl n version script styles messages, origin.Stored number)) given e = absurd (cc)
+    from_given row pair shared (Some (Impl n version script styles messages, origin.Wire mark)) given e =
+        let part = Impl n version script styles messages in
+        let came = parts_come_by_answers throws c past (length now.ended) v at_end row.name part mark given in
+        by_length (nat_le (length (part_text part)) 100000) _ pair e
+        (fresh_served row.name shared n version script styles messages mark (part_named came.parts row.name part came.stands)
+        (served_is_built throws c past lawful texts (length now.ended) v at_end row.name n version script styles messages mark given))
 
-    fresh_one : (row : Row) (pair : Stored) → fresh_of throws v.opening v.past row ≡ Some pair → Fresh pair
-    fresh_one row pair e = step (is_kept_group row.group && is_ready (state_of (view_of throws v.opening) (events_of v.opening v.past) row.name)) e
+    fresh_one : (row : Row) (pair : Stored) → IsSharedIfKept c row → fresh_of throws v.opening v.past row ≡ Some pair → Fresh pair
+    fresh_one row pair shared e = step (is_kept_group row.group) refl (is_ready (state_of (view_of throws v.opening) (events_of v.opening v.past) row.name)) e
       where
-        step : (b : Bool) → (if b then option_and_then stored_from (given_to v.opening v.past row.name) else None) ≡ Some pair → Fresh pair
-        step true e = from_given row pair (given_to v.opening v.past row.name) refl e
-        step false e = absurd (cc)
+        step : (b : Bool) → is_kept_group row.group ≡ b → (r : Bool)
+            → (if b && r then option_and_then stored_from (given_to v.opening v.past row.name) else None) ≡ Some pair → Fresh pair
+        step true kept true e = from_given row pair (shared kept) (given_to v.opening v.past row.name) refl e
+        step true kept false e = absurd (cc)
+        step false kept r e = absurd (cc)
 
     fresh_ok : PairsOk c now.wires (vary_of c v.context) (fresh_pairs throws v.opening v.past)
-    fresh_ok = all_mapped (fresh_of throws v.opening v.past) Fresh fresh_one v.opening.registered.rows
+    fresh_ok =
+        all_mapped (fresh_of throws v.opening v.past) (IsSharedIfKept c) Fresh fresh_one v.opening.registered.rows
+        (subst (AllByRecursion (IsSharedIfKept c)) (sym (views_over throws c past v there).rows) (start_shared c v.entries v.viewer v.context))
 
   ok_closed : StoreOk c now → StoreOk c (closed throws now)
   ok_closed h = ok_closing c throws now now.current refl h fresh_ok
@@ -407,13 +446,16 @@ current_ok c wires vary None h = tt
 current_ok c wires vary (Some v) h = h.0
 
 pub stored_is_built : StoredIsBuilt
-stored_is_built throws c past lawful texts v there name part number given =
+stored_is_built throws c past lawful skins texts v there name part number given =
     let s = session_of throws c past in
     let h = ok_session throws c past lawful texts in
     let ok : ViewOk c s.wires v = among (ViewOk c s.wires) s.ended s.current v h.ended (current_ok c s.wires s.store.vary s.current h.current) there in
     let by = given_by_call v.opening name v.past (part, origin.Stored number) given in
     let taken = by_call c s.wires v ok name part number by.0 by.2 in
     let same : c ≡ s.catalogue = sym (catalogue_stays throws c past) in
+    let told = each_view (IsTold c) (told_stays c) throws c past (told_all throws c past texts) v there in
+    let tells = vary_tells c skins taken.pair_ok.context v.context taken.pair_ok.has (told.lang, told.skin, told.debug, told.context_is)
+    taken.pair_ok.alike in
     record {
       wire = taken.pair_ok.wire;
       mark = taken.pair_ok.mark;
@@ -427,8 +469,12 @@ stored_is_built throws c past lawful texts v there name part number given =
       named = taken.named;
       row_key = taken.row_key;
       alike = subst (λ (d : Catalogue). vary_of d taken.pair_ok.context ≡ vary_of d v.context) same taken.pair_ok.alike;
-      built =
+      made =
           subst (λ (d : Catalogue). IsBuilt d taken.pair_ok.wire.entries taken.pair_ok.wire.ask.viewer taken.pair_ok.context part) same
           (subst (λ (p : Part). IsBuilt c taken.pair_ok.wire.entries taken.pair_ok.wire.ask.viewer taken.pair_ok.context p) taken.part_is
           taken.pair_ok.built);
+      built =
+          subst (λ (d : Catalogue). IsBuilt d taken.pair_ok.wire.entries v.viewer v.context part) same
+          (subst (λ (p : Part). IsBuilt c taken.pair_ok.wire.entries v.viewer v.context p) taken.part_is
+          (taken.pair_ok.everyone v.viewer v.context tells.0));
     }

@@ -36,6 +36,7 @@ use Rattle.rl_view_spec.specs.View.{Throws, Implementation, is_touched, log_of}
 use Rattle.rl_steps.specs.declared.step.Step.{Step}
 use Rattle.rl_stage_spec.specs.Replies.{events_in, view_in}
 use Rattle.rl_stage_spec.specs.Session.{Session, Viewed, Wired, base_of, body_of, session_of, vary_of}
+use Rattle.rl_stage_spec.specs.Shared.{HasSkins}
 
 -- all views of a session, by number
 abbrev pub views_of : Session → List Viewed
@@ -121,8 +122,9 @@ ServedIsBuilt =
     → given_to v.opening v.past name ≡ Some (Impl found version script styles messages, origin.Wire mark)
     → IsServed (session_of throws c past) number v (Impl found version script styles messages) mark
 
--- A part that a view took from the store was built when the wiki made the answer whose number the store kept with it: for the
--- viewer of that answer's ask, in a context for which the same is stored. Its key is that of the row.
+-- A part that a view took from the store was built when the wiki made the answer whose number the store kept with it. It was
+-- made for the viewer of that answer's ask, in a context for which the same is stored, and this is what the wiki built then for
+-- the view's own viewer and context too. Its key is that of the row.
 pub record WasStored (s : Session) (v : Viewed) (name : Text) (part : Part) (kept_number : Option ℕ) : Type 0 where
   pub wire : Wired
   pub mark : Mark
@@ -130,7 +132,8 @@ pub record WasStored (s : Session) (v : Viewed) (name : Text) (part : Part) (kep
   pub number_is : kept_number ≡ wire_of mark
   pub context : Context
   pub alike : vary_of s.catalogue context ≡ vary_of s.catalogue v.context
-  pub built : IsBuilt s.catalogue wire.entries wire.ask.viewer context part
+  pub made : IsBuilt s.catalogue wire.entries wire.ask.viewer context part
+  pub built : IsBuilt s.catalogue wire.entries v.viewer v.context part
   pub stored : Stored
   pub part_is : stored.part ≡ part
   pub of_key : IsOfKey stored
@@ -140,7 +143,7 @@ pub record WasStored (s : Session) (v : Viewed) (name : Text) (part : Part) (kep
 
 abbrev pub StoredIsBuilt : Type 0
 StoredIsBuilt =
-    (throws : Throws) (c : Catalogue) (past : List Step) → IsCatalogue c → AllByRecursion OpensWithTexts past → (v : Viewed)
+    (throws : Throws) (c : Catalogue) (past : List Step) → IsCatalogue c → HasSkins c → AllByRecursion OpensWithTexts past → (v : Viewed)
     → Contains (views_of (session_of throws c past)) v
     → (name : Text) (part : Part) (number : Option ℕ) → given_to v.opening v.past name ≡ Some (part, origin.Stored number)
     → WasStored (session_of throws c past) v name part number
